@@ -1,7 +1,8 @@
 use Rattle.std.proofs.Common.{◌≡◌, ◌∙◌, ap, sym, true, get_or, arith}
 use Rattle.std.proofs.lemmas.Bool.Decides.{nat_tests}
-use Rattle.sq_csv.specs.Cuts.{below_128, stays_quoted}
-use Rattle.sq_csv.proofs.FieldLemmas.{quote_behind, skips_bits, skips_kept, skips_low}
+use Rattle.std.proofs.lemmas.List.{drop_all}
+use Rattle.sq_csv.specs.Cuts.{below_128, ends_line, stays_quoted}
+use Rattle.sq_csv.proofs.FieldLemmas.{drop_at, line_quoteless, quote_behind, skips_bits, skips_kept, skips_low}
 use Rattle.sq_csv.proofs.fields.cut_quote.Goals as goal
 use Rattle.sq_csv.proofs.fields.cut_quote.Goals.{then-ascii, else-ascii}
 
@@ -25,10 +26,24 @@ loop-at-preserved c =
     let here : stays_quoted (get_or c.args.text.now l.at 0) ≡ true = grind (arith, nat_tests) in
     skips_low stays_quoted c.args.text.now c.args.from l.at l.bits l.invariant c.loop-at-test.true here (omega (arith, c.if-byte-gt34.false))
 
-pub returns-in-34 : goal.returns-in-34
-returns-in-34 c =
+pub returns-in-34-clause-first : goal.returns-in-34-clause-first
+returns-in-34-clause-first c =
     let l = c.loop-at in
-    record {
-      first = quote_behind c.args.text.now c.args.from l.at (below_128 l.bits) l.invariant c.loop-at-test.true c.in-34.is;
-      ascii = l.invariant.ascii;
-    }
+    quote_behind c.args.text.now c.args.from l.at (below_128 l.bits) l.invariant c.loop-at-test.true c.in-34.is
+
+pub returns-in-34-clause-ascii : goal.returns-in-34-clause-ascii
+returns-in-34-clause-ascii c =
+    let l = c.loop-at in
+    l.invariant.ascii
+
+pub returns-in-10-clause-none : goal.returns-in-10-clause-none
+returns-in-10-clause-none c =
+    let text = c.args.text.now in
+    let l = c.loop-at in
+    λ none. line_quoteless text c.args.from l.at (below_128 l.bits) l.invariant (ap ends_line (drop_at text l.at 10 c.loop-at-test.true c.in-10.is))
+
+pub returns-clause-none : goal.returns-clause-none
+returns-clause-none c =
+    let text = c.args.text.now in
+    let l = c.loop-at in
+    λ none. line_quoteless text c.args.from l.at (below_128 l.bits) l.invariant (ap ends_line (drop_all l.at text (omega (arith, c.loop-at-test.false))))
