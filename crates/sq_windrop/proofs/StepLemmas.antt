@@ -1,8 +1,9 @@
 -- What a tuple makes of the batches that it is the first to touch, one batch after another.
-use Rattle.std.proofs.Common.{◌≡◌, ℕ, ◌+◌, ◌-◌, ◌*◌, ◌/◌, ◌<◌, ◌≤◌, max, min, ◌^◌, Bool, true, false, List, [], ◌∷◌, ◌++◌, map, Option, Some, None, refl, ap, ap₂, sym, subst, ◌∙◌, append_assoc, append-nil, div-lt_iff_lt-mul, arith}
+use Rattle.std.proofs.Common.{◌≡◌, ℕ, ◌+◌, ◌-◌, ◌*◌, ◌/◌, ◌<◌, ◌≤◌, max, min, ◌^◌, Bool, true, false, List, [], ◌∷◌, ◌++◌, length, map, Option, Some, None, refl, ap, ap₂, sym, subst, ◌∙◌, append_assoc, append-nil, div-lt_iff_lt-mul, arith}
 use Rattle.std.specs.Prelude.{nat_lt, if◌then◌else◌}
 use Rattle.std.proofs.lemmas.List.{map-append}
 use Rattle.std.proofs.lemmas.List.Elements.{filter-append}
+use Rattle.std.proofs.lemmas.List.FromFn.{length-range_with_len}
 use Rattle.std.specs.List.{AllByRecursion, filter, range_with_len}
 use Rattle.sq_value.specs.declared.Value.{Value}
 use Rattle.sq_words.specs.Lists.{IsPrefixOf}
@@ -21,7 +22,7 @@ use Rattle.sq_tagged.specs.TaggedStreams.{Timed, mark_thing, bound_in}
 use Rattle.sq_oper.proofs.PartLemmas.{at_port-append, item_law, body_prefix}
 use Rattle.sq_windrop.specs.declared.drop.Dropping.{Dropping}
 use Rattle.sq_windrop.specs.declared.drop.Batches.{Batches}
-use Rattle.sq_windrop.specs.Drops.{IsBegunAlone, level_at, needed_of, is_batch_dropped, drop_mark, marks_for, decided, decision, greatest_bound, bound_of, first_new, newly, after_tuple, for_tuple, drop_next, drop_gives, drop_rest, drop_holds, decided_content, drop_decides, next_body, gives_body, decided_body}
+use Rattle.sq_windrop.specs.Drops.{IsBegunAlone, IsDropping, level_at, needed_of, is_batch_dropped, drop_mark, marks_for, decided, decision, greatest_bound, bound_of, first_new, newly, after_tuple, for_tuple, drop_next, drop_gives, drop_rest, drop_holds, decided_content, drop_decides, next_body, gives_body, decided_body}
 use Rattle.sq_windrop.proofs.DropLemmas.{newly-early}
 use Rattle.sq_words.proofs.Ranges.{range_split}
 
@@ -145,7 +146,7 @@ range-more from b end le le2 =
     ∙ ap (λ k. range_with_len from (b - from) ++ range_with_len k (end - b)) (let e : from + (b - from) ≡ b = omega (arith, le) in e)
 
 -- a tick touches few batches at once
-pub few-touched : (time keep len next : ℕ) → 1 ≤ len → keep < 4096 * len → time / len + 1 - max next ((time - keep) / len) ≤ 4097
+few-touched : (time keep len next : ℕ) → 1 ≤ len → keep < 4096 * len → time / len + 1 - max next ((time - keep) / len) ≤ 4097
 few-touched time keep len next some less =
     let first : ℕ = (time - keep) / len in
     let lt : time - keep < (first + 1) * len = (div-lt_iff_lt-mul some).0 (let e : first < first + 1 = omega arith in e) in
@@ -157,6 +158,15 @@ few-touched time keep len next some less =
     bound time keep len first lt less =
         let e : (first + 4097) * len ≡ (first + 1) * len + 4096 * len = grind arith in
         omega (arith, e, lt, less)
+
+-- how many batches a tick is the first to touch
+pub length-newly : (d : Dropping) (next time : ℕ) → length (newly d next time) ≡ time / d.length + 1 - first_new d next time
+length-newly d next time = length-range_with_len (first_new d next time) (time / d.length + 1 - first_new d next time)
+
+pub few-newly : (d : Dropping) (next time : ℕ) → IsDropping d → length (newly d next time) ≤ 4097
+few-newly d next time limits =
+    let all = length-newly d next time in
+    let few = few-touched time d.keep d.length next limits.least limits.kept in omega (arith, all, few)
 
 -- an item's parts: its mark changes nothing
 module _ (d : Dropping) (table : ℕ → ℕ → ℕ) (port : ℕ) (item : Item) where

@@ -1,6 +1,6 @@
 //! The window drop.
 
-ghost use Rattle.std.specs.Prelude.{◌≡◌, ℕ, ◌+◌, ◌-◌, ◌*◌, ◌/◌, ◌^◌, ◌<◌, ◌≤◌, ◌==◌, ◌++◌, ◌∷◌, true, false, List, [], Some, map, length, is_some, option_to_list, IsTrue, IfSome, IfOk, OnOk, OnErr, if◌then◌else◌};
+ghost use Rattle.std.specs.Prelude.{◌≡◌, ℕ, ◌+◌, ◌-◌, ◌*◌, ◌/◌, ◌^◌, ◌<◌, ◌≤◌, ◌==◌, ◌++◌, ◌∷◌, true, false, List, [], None, Some, map, length, is_some, option_to_list, IsTrue, IfSome, IfOk, OnOk, OnErr, if◌then◌else◌};
 ghost use Rattle.sq_value.specs.declared.Value.{Value};
 ghost use Rattle.sq_words.specs.Lists.{IsPrefixOf};
 ghost use Rattle.sq_item.specs.SoundItems.{IsBody, IsMark, IsSoundItem};
@@ -220,7 +220,7 @@ fn touch_each<T: Outlet>(
     ensures sound { ItemsSound (T.items out.old) → ItemsSound (T.items out.new) }
     ensures extends { IsPrefixOf (T.items out.old) (T.items out.new) }
     ensures keeps { IsPrefixOf (T.drops out.old) (T.drops out.new) }
-    ensures few { length (T.items out.new) ≤ length (T.items out.old) + 4097 }
+    ensures few { length (T.items out.new) ≤ length (T.items out.old) + length (newly with.now batches.old.next time) }
     ensures stays_ready { OnOk result (T.ready out.new) }
     ensures came { (start : T) → T.came start out.old → T.came start out.new }
 {
@@ -241,7 +241,8 @@ fn touch_each<T: Outlet>(
 /// The batch that a tuple of this time begins, where that is the one batch that it is the first to touch.
 fn begun_alone(with: &Dropping, next: u64, time: u64) -> Option<u64>
     requires { IsDropping with.now }
-    ensures { IfSome result (λ batch. IsBegunAlone with.now next time batch) }
+    ensures some { IfSome result (λ batch. IsBegunAlone with.now next time batch) }
+    ensures none { result ≡ None → (batch : ℕ) → ¬ (IsBegunAlone with.now next time batch) }
 {
     let batch = time / with.length;
     if first_new(with, next, time) == batch && batch * with.length == time {
@@ -365,7 +366,8 @@ fn take<T: Outlet>(
     ensures sound { ItemsSound (T.items out.old) → ItemsSound (T.items out.new) }
     ensures extends { IsPrefixOf (T.items out.old) (T.items out.new) }
     ensures keeps { IsPrefixOf (T.drops out.old) (T.drops out.new) }
-    ensures few { length (T.items out.new) ≤ length (T.items out.old) + 4098 }
+    ensures few { length (T.items out.new) ≤ length (T.items out.old) + 1 + length (newly with.now batches.old.next time) }
+    ensures one { (batch : ℕ) → IsBegunAlone with.now batches.old.next time batch → length (T.items out.new) ≤ length (T.items out.old) + 1 }
     ensures stays_ready { OnOk result (T.ready out.new) }
     ensures came { (start : T) → T.came start out.old → T.came start out.new }
 {
@@ -451,8 +453,11 @@ impl Operator for WinDropBox {
         ensures counted { OnOk result (self.new.tally.taken ≡ self.old.tally.taken + (if is_some item.body then 1 else 0)) }
         ensures cost { OnOk result (steps.new ≡ steps.old + (if is_some item.body then 1 else 0)) }
         ensures no_cost { OnErr result (steps.new ≡ steps.old) }
-        // A drop appends the marks of few batches at once.
+        // A drop appends the marks of few batches at once, one for each batch that a tuple is the first to touch; where the tuple begins
+        // the one such batch, its mark is one item with the tuple.
         ensures few { length (T.items out.new) ≤ length (T.items out.old) + 4098 }
+        ensures each { length (T.items out.new) ≤ length (T.items out.old) + 1 + length (newly self.old.with self.old.batches.next item.time) }
+        ensures one { (batch : ℕ) → IsBegunAlone self.old.with self.old.batches.next item.time batch → length (T.items out.new) ≤ length (T.items out.old) + 1 }
         ensures stays_ready { OnOk result (T.ready out.new) }
         ensures came { (start : T) → T.came start out.old → T.came start out.new }
     {

@@ -6,7 +6,7 @@ use Rattle.sq_oper.specs.Streams.{at_zero}
 use Rattle.sq_tagged.specs.TaggedStreams.{mark_thing}
 use Rattle.sq_windrop.specs.Drops.{drop_mark, marks_for, decided, greatest_bound, first_new, newly}
 use Rattle.sq_windrop.proofs.TouchLemmas.{begun}
-use Rattle.sq_windrop.proofs.StepLemmas.{given-push, decided-push, bound-push, prefix-more, decided-more, range-push, range-more, few-touched}
+use Rattle.sq_windrop.proofs.StepLemmas.{given-push, decided-push, bound-push, prefix-more, decided-more, range-push, range-more, length-newly}
 use Rattle.sq_windrop.proofs.drop.touch_each.Goals as goal
 use Rattle.sq_words.proofs.Prefixes.{prefix_along}
 use Rattle.sq_words.proofs.Results.{OnErr_from}
@@ -59,10 +59,10 @@ returns-in_err-until-clause-few g c =
     let is : from ≡ first_new d next c.args.time = c.first_new-from.ensures in
     let le = c.loop-batch.auto.batch in
     let less = c.loop-batch-test.true in
-    let few = few-touched c.args.time d.keep d.length next c.requires.limits.least c.requires.limits.kept in
+    let all = length-newly d next c.args.time in
     let so = c.loop-batch.invariant.few in
     let one = c.in_err-until.ensures.few in
-    omega (arith, is, le, less, few, so, one)
+    omega (arith, is, le, less, all, so, one)
 
 pub loop-batch-preserved : goal.loop-batch-preserved
 loop-batch-preserved g c =
@@ -156,6 +156,6 @@ returns-clause-few g c =
     let low = c.loop-batch.invariant.low in
     let le = c.loop-batch.auto.batch in
     let count : b - from ≡ c.args.time / d.length + 1 - first_new d next c.args.time = omega (arith, is, past, low, le) in
-    let few = few-touched c.args.time d.keep d.length next c.requires.limits.least c.requires.limits.kept in
+    let all = length-newly d next c.args.time in
     let so = c.loop-batch.invariant.few in
-    omega (arith, count, few, so)
+    omega (arith, count, all, so)
