@@ -1,13 +1,13 @@
 -- From the mask of one load to the bytes that pass a test.
-use Rattle.std.proofs.Common.{◌≡◌, ◌∙◌, ap, sym, refl, ℕ, zero, suc, ◌+◌, ◌-◌, ◌%◌, ◌^◌, ◌≤◌, Bool, true, false, not, ◌&&◌, leb, cond, List, [], ◌∷◌, ◌++◌, map, length, take, drop, get_or, Fits, w8, arith}
+use Rattle.std.proofs.Common.{◌≡◌, ◌∙◌, ap, sym, refl, ℕ, zero, suc, ◌+◌, ◌-◌, ◌%◌, ◌^◌, ◌<◌, ◌≤◌, Bool, true, false, not, ◌&&◌, leb, cond, List, [], ◌∷◌, ◌++◌, map, length, take, drop, get_or, Fits, w8, arith}
 use Rattle.std.specs.List.{prefix_len, list_all, slice_range}
 use Rattle.std.proofs.Math.Seq.{take-add}
 use Rattle.std.proofs.lemmas.Bool.{agree_below, agree_below_at, le-leb}
 use Rattle.std.proofs.lemmas.Bool.Decides.{nat_tests}
-use Rattle.std.proofs.lemmas.List.{drop-drop, length-map, take-append-le}
+use Rattle.std.proofs.lemmas.List.{drop-drop, get_or-drop, get_or-take, length-map, take-append-le}
 use Rattle.std.proofs.lemmas.List.Edits.{between_none}
 use Rattle.std.proofs.lemmas.List.Folds.{list_all-append}
-use Rattle.std.proofs.lemmas.List.Sums.{prefix_len-le-length}
+use Rattle.std.proofs.lemmas.List.Sums.{prefix_len-le-length, prefix_len_passes, prefix_len_stops}
 use Rattle.std.proofs.lemmas.Simd.{chunk-drop, chunk-fits, first_set_mask_l, length-chunk, map-map, mask_l-mod}
 use lib.Lanes.{Each1, chunk, mask_l, top}
 use Rattle.sq_csv.specs.Cuts.{below_128}
@@ -71,3 +71,25 @@ skips_more test text from at run low ascii so_far room is_run is_low =
       passed = rw (passes_on test text from at run so_far.ahead room short, so_far.passed) (le-leb _ _ (omega (arith, is_run)));
       ascii = rw (is_low, so_far.ascii) (sym (passes_on below_128 text from at run so_far.ahead room short));
     }
+
+-- a byte of a load, by its place in the text
+in_load : (text : List ℕ) (at k : ℕ) → k < 16 → get_or (chunk at 16 text) k 0 ≡ get_or text (at + k) 0
+in_load text at k inside = get_or-take 16 (drop at text) k 0 inside ∙ get_or-drop at text k 0
+
+-- the bytes of a run pass its test
+pub run_passes : (test : ℕ → Bool) (text : List ℕ) (at run k : ℕ) → at + 16 ≤ length text → run ≡ prefix_len test (chunk at 16 text) → k < run
+    → test (get_or text (at + k) 0) ≡ true
+run_passes test text at run k room is inside =
+    let short = run_short test text at run room is in
+    sym (ap test (in_load text at k (omega (arith, short)))) ∙ prefix_len_passes test (chunk at 16 text) k 0 (omega (arith, is))
+
+-- and the byte behind it doesn't, where the load has one
+pub run_stops : (test : ℕ → Bool) (text : List ℕ) (at run : ℕ) → at + 16 ≤ length text → run ≡ prefix_len test (chunk at 16 text) → run < 16
+    → test (get_or text (at + run) 0) ≡ false
+run_stops test text at run room is short =
+    let bytes = chunk at 16 text in
+    sym (ap test (in_load text at run short)) ∙ ap (λ k. test (get_or bytes k 0)) is ∙ prefix_len_stops test bytes 0 (omega (arith, is, length-chunk at 16 text room))
+
+pub run_all : (test : ℕ → Bool) (text : List ℕ) (at run : ℕ) → at + 16 ≤ length text → run ≡ prefix_len test (chunk at 16 text)
+    → list_all test (slice_range text at (at + run)) ≡ true
+run_all test text at run room is = (skips_more test text at at run _ true (skips_none test text at (omega arith)) room is refl).passed

@@ -1,6 +1,7 @@
 // How many of the 16 bytes at a place of a text, from the first, are of a class.
 ghost use Rattle.std.specs.Prelude.{◌≡◌, ◌+◌, ◌≤◌, drop, length, take};
 ghost use Rattle.std.specs.List.{prefix_len};
+ghost use Rattle.sq_value.specs.Texts.{is_digit};
 ghost use Rattle.sq_csv.specs.Cuts.{below_128, joins, stays_quoted};
 ghost use Rattle.sq_csv.specs.Lanes.{first_set};
 
@@ -46,5 +47,15 @@ pub(crate) fn ascii_run(text: &[u8], at: usize) -> usize
     ensures { result ≡ prefix_len below_128 (take 16 (drop at text.now)) }
 {
     let others = u8x16::from_slice(&text[at..]).simd_ge(u8x16::splat(128));
+    first_set(others.to_bitmask())
+}
+
+#[inline(always)]
+pub(crate) fn digit_run(text: &[u8], at: usize) -> usize
+    requires { at + 16 ≤ length text.now }
+    ensures { result ≡ prefix_len is_digit (take 16 (drop at text.now)) }
+{
+    let bytes = u8x16::from_slice(&text[at..]);
+    let others = bytes.simd_lt(u8x16::splat(b'0')) | bytes.simd_gt(u8x16::splat(b'9'));
     first_set(others.to_bitmask())
 }
