@@ -7,7 +7,7 @@ ghost use Rattle.sq_value.specs.declared.Value.{Value as V};
 ghost use Rattle.sq_replay.specs.Cuts.{AreRead, ReadsAt, ReadsField, ReadsLine};
 
 use crate::plain::{cut_int, cut_tick, is_ascii, text_of};
-use sq_csv::{cut_bare, cut_quote, line_ends_at, stands_at, unquote};
+use sq_csv::{cut_bare, cut_quote, line_ends_at, skip_digits, stands_at, unquote};
 use sq_value::{Kind, read_value};
 use std::alloc::{AllocError, Global};
 
@@ -64,13 +64,16 @@ fn behind_text(text: &[u8], from: usize) -> Option<usize>
     None
 }
 
-/// Where a field ends that is a number or empty.
+/// Where a field ends that is a number or empty. So few digits are a number of 64 bits, whichever they are.
 #[inline(always)]
 fn behind_int(alloc: Global, text: &[u8], from: usize) -> Option<usize>
     requires within { from ≤ length text.now }
     requires bare { begins_quoted (drop from text.now) ≡ false }
     ensures { IfSome result (λ at. (v : V) × ReadsAt Kind.Int text.now from v at) }
 {
+    if let Some(at) = skip_digits(text, from) {
+        return Some(at);
+    }
     match cut_int(text, from) {
         Some((_, at)) => Some(at),
         None => behind_read(alloc, Kind::Int, text, from),
