@@ -169,6 +169,7 @@ impl<O: Operator + Drop> Engine<O> {
     }
 
     /// Looks at an actor: counts what waits for it, and lists it last where it is ready and isn't listed.
+    #[inline(always)]
     fn look_at(&mut self, actor: u32)
         requires flow { IsFlow O.Operator self.old.flow }
         requires room { HasSeats self.old }

@@ -30,6 +30,7 @@ fn append_doubled(field: &[u8], out: &mut Vec<u8>) -> Result<(), AllocError>
 }
 
 /// Puts a field at the end, in quotes where it needs them.
+#[inline(always)]
 pub(crate) fn append_field(field: &[u8], out: &mut Vec<u8>) -> Result<(), AllocError>
     ensures ok { OnOk result (out.new.items ≡ out.old.items ++ field_text field.now) }
     ensures kept { IsPrefixOf out.old.items out.new.items }

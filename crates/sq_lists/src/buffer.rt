@@ -111,6 +111,7 @@ impl Buffer {
     }
 
     /// Takes a tuple with a number that is greater than all that are held. An `Err` changes nothing.
+    #[inline(always)]
     pub fn put(&mut self, time: u64, number: u64, fields: Fields) -> Result<(), AllocError>
         requires greater { AllByRecursion (λ a. a.0 < number) self.old }
         ensures ok { OnOk result (self.new ≡ put_in (number, record { time = time; fields = fields }) self.old) }
@@ -126,6 +127,7 @@ impl Buffer {
     }
 
     /// Takes out the first, if there is one.
+    #[inline(always)]
     pub fn take_first(&mut self) -> Option<Tuple>
         ensures gives { option_to_list result ≡ first_of_all self.old }
         ensures rest { self.new ≡ after_first self.old }

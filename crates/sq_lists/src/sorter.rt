@@ -34,6 +34,7 @@ impl Model for Sorter {
 }
 
 /// Takes out the first of the held tuples, and gives it unless it is late.
+#[inline(always)]
 fn take_on_time(held: &mut Buffer, latest: &mut u64) -> Option<Tuple>
     ensures gives { option_to_list result ≡ without_late latest.old (first_of_all held.old) }
     ensures held { held.new ≡ after_first held.old }
@@ -77,6 +78,7 @@ impl Sorter {
 
     /// Takes a tuple of this time. Where more than `slack` are held then, the first goes out, and is given unless it is
     /// late. An `Err` changes nothing.
+    #[inline(always)]
     pub fn put(&mut self, time: u64, fields: Fields) -> Result<Option<Tuple>, AllocError>
         requires room { self.old.number < 2 ^ 64 - 1 }
         ensures next { OnOk result (self.new ≡ sort_next self.old (record { time = time; fields = fields })) }

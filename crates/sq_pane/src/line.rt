@@ -355,6 +355,7 @@ fn take_in_through<F: Fold>(
 }
 
 /// The join of those of some states in a row that the window that starts at a tick covers, where there is one.
+#[inline(always)]
 fn joined_of<F: Fold>(
     fold: &F,
     states: &VecDeque<(u64, F::State)>,
@@ -389,6 +390,7 @@ fn joined_of<F: Fold>(
 }
 
 /// Of some states in a row those that the window that starts at a tick covers, joined to one that may be there.
+#[inline(always)]
 fn joined_through<F: Fold>(
     fold: &F,
     joined: Option<F::State>,

@@ -307,6 +307,7 @@ fn begin_batch<T: Outlet>(
 }
 
 /// Gives a tuple, if it is before the bound.
+#[inline(always)]
 fn give_needed<T: Outlet>(
     time: u64,
     bound: u64,
