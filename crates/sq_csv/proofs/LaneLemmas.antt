@@ -34,7 +34,7 @@ told_first true n k rest h = grind (arith, nat_tests)
 told_first false n k rest h = grind (arith, nat_tests)
 
 -- whether the first bytes pass a test is told by how many do
-told_by_run : (test : ℕ → Bool) (n : ℕ) (bs : List ℕ) → n ≤ length bs → leb n (prefix_len test bs) ≡ list_all test (take n bs)
+pub told_by_run : (test : ℕ → Bool) (n : ℕ) (bs : List ℕ) → n ≤ length bs → leb n (prefix_len test bs) ≡ list_all test (take n bs)
 told_by_run test zero bs room = grind (arith, nat_tests)
 told_by_run test (suc n) [] room = absurd (omega arith)
 told_by_run test (suc n) (b ∷ bs) room = told_first (test b) n (prefix_len test bs) _ (told_by_run test n bs (omega arith))

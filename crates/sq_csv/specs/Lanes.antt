@@ -1,7 +1,9 @@
--- The bytes of a text that are passed over by one load after another.
-use Rattle.std.specs.Prelude.{◌≡◌, ◌≤◌, ◌==◌, ℕ, Bool, true, List, length, slice_range, if◌then◌else◌}
+-- The bytes of a text that are passed over by one load after another, and those of one word.
+use Rattle.std.specs.Prelude.{◌≡◌, ◌≤◌, ◌==◌, ℕ, Bool, true, List, bit_xor, length, slice_range, if◌then◌else◌}
 use Rattle.std.specs.Int.{w64, trailing_zeros}
+use Rattle.std.specs.Int.Digits.{AllBelowBase}
 use Rattle.std.specs.List.{list_all}
+use Rattle.sq_value.specs.Texts.{is_digit}
 use Rattle.sq_csv.specs.Cuts.{below_128}
 
 -- the place of the lowest bit that is set, or 16
@@ -14,3 +16,15 @@ pub record PassesOver (test : ℕ → Bool) (text : List ℕ) (from : ℕ) (skip
   pub within : skipped.0 ≤ length text
   pub passed : list_all test (slice_range text from skipped.0) ≡ true
   pub ascii : skipped.1 ≡ list_all below_128 (slice_range text from skipped.0)
+
+-- eight numbers below a base
+abbrev pub AreEight : ℕ → List ℕ → Type 0
+AreEight base ns = (length ns ≡ 8) × AllBelowBase base ns
+
+-- a digit's value; of any other byte it is at least 10
+abbrev pub less_zero : ℕ → ℕ
+less_zero b = bit_xor b 48
+
+-- the high bit of a byte, set where this one is no digit
+abbrev pub mark : ℕ → ℕ
+mark b = if is_digit b then 0 else 128

@@ -34,11 +34,11 @@ returns-then-run-eq0-clause-none c =
     elim c.then-run-eq0.branch [
       | then-run-eq0-via-then-run-eq0 w ↦ absurd
           (let first = digit_first 15 text from number at cut in
-           let stops = run_stops is_digit text from run room c.digit_run-run.ensures (omega (arith, w.if-run-eq0.true)) in
-           let here : from + run ≡ from = omega (arith, w.if-run-eq0.true) in
-           cc (sym first.2 ∙ sym (ap (λ i. is_digit (get_or text i 0)) here) ∙ stops))
+          let stops = run_stops is_digit text from run room c.digit_run-run.ensures (omega (arith, w.if-run-eq0.true)) in
+          let here : from + run ≡ from = omega (arith, w.if-run-eq0.true) in
+          cc (sym first.2 ∙ sym (ap (λ i. is_digit (get_or text i 0)) here) ∙ stops))
       | then-run-eq0-via-else-run-eq0+then-run-eq-LANES w ↦
           (let few = cut_few 15 text from number at cut in
-           let there : from + (at - from) ≡ at = omega (arith, few.0) in
-           sym (ap (λ i. is_digit (get_or text i 0)) there) ∙ run_passes is_digit text from run (at - from) room c.digit_run-run.ensures (omega (arith, few.0, few.1, w.if-run-eq-LANES.true)))
+          let there : from + (at - from) ≡ at = omega (arith, few.0) in
+          sym (ap (λ i. is_digit (get_or text i 0)) there) ∙ run_passes is_digit text from run (at - from) room c.digit_run-run.ensures (omega (arith, few.0, few.1, w.if-run-eq-LANES.true)))
     ]
