@@ -14,7 +14,7 @@ use Rattle.std.proofs.lemmas.Simd.{first_set_mask_l}
 use lib.Count.{count_trailing_zeros}
 use lib.Lanes.{mask_l, number_l}
 use Rattle.sq_value.specs.Texts.{digit_values, is_digit, number_in}
-use Rattle.sq_csv.specs.Lanes.{AreEight, less_zero, mark}
+use Rattle.sq_csv.specs.Lanes.{AreEight, less_zero, flag}
 use Rattle.sq_csv.proofs.LaneLemmas.{told_by_run}
 
 -- the mask keeps bytes 0 and 4
@@ -126,10 +126,10 @@ lanes_are bs word eight is =
 lane_small : (b : ℕ) → b < 256 → less_zero b < 256
 lane_small b small = xor_lt 8 b 48 small (omega arith)
 
--- each byte is marked that is no digit
-pub marks_are : (bs : List ℕ) (lanes : ℕ) → AreEight 256 bs → lanes ≡ number_l 256 (map less_zero bs)
-    → bit_and (bit_or (bit_and lanes 0x7f7f_7f7f_7f7f_7f7f + 0x7676_7676_7676_7676) lanes) 0x8080_8080_8080_8080 ≡ number_l 256 (map mark bs)
-marks_are bs lanes eight is =
+-- each byte is flagged that is no digit
+pub flags_are : (bs : List ℕ) (lanes : ℕ) → AreEight 256 bs → lanes ≡ number_l 256 (map less_zero bs)
+    → bit_and (bit_or (bit_and lanes 0x7f7f_7f7f_7f7f_7f7f + 0x7676_7676_7676_7676) lanes) 0x8080_8080_8080_8080 ≡ number_l 256 (map flag bs)
+flags_are bs lanes eight is =
     let low : ℕ → ℕ = λ b. bit_and (less_zero b) 127 in
     let sum : ℕ → ℕ = λ b. low b + 118 in
     let either : ℕ → ℕ = λ b. bit_or (sum b) (less_zero b) in
@@ -139,20 +139,20 @@ marks_are bs lanes eight is =
     let summed = (λ i. kept i + each_byte 118 bs eight.0 i) ∙ added low 118 bs in
     let joined = (λ i. bit_or (summed i) (is i)) ∙ by_byte bit_or refl or_block sum less_zero sum_small lane_small bs eight.1 in
     (λ i. bit_and (joined i) (each_byte 128 bs eight.0 i)) ∙ by_byte bit_and refl and_block either (λ b. 128) either_small (λ b h. omega arith) bs eight.1
-    ∙ ap (number_l 256) (same_each (λ b. bit_and (either b) 128) mark (agree (λ b. bit_and (either b) 128) mark refl) bs eight.1)
+    ∙ ap (number_l 256) (same_each (λ b. bit_and (either b) 128) flag (agree (λ b. bit_and (either b) 128) flag refl) bs eight.1)
 
--- ---- the marks, bit by bit
+-- ---- the flags, bit by bit
 abbrev bits : List ℕ → List Bool
 bits [] = []
 bits (b ∷ bs) = false ∷ false ∷ false ∷ false ∷ false ∷ false ∷ false ∷ not (is_digit b) ∷ bits bs
 
-one_mark : (b : Bool) → 128 * cond (not b) 1 0 ≡ cond b 0 128
-one_mark true = refl
-one_mark false = refl
+one_flag : (b : Bool) → 128 * cond (not b) 1 0 ≡ cond b 0 128
+one_flag true = refl
+one_flag false = refl
 
-marks_mask : (bs : List ℕ) → number_l 256 (map mark bs) ≡ mask_l (map (λ b. b) (bits bs))
-marks_mask [] = refl
-marks_mask (b ∷ bs) = omega (arith, marks_mask bs, one_mark (is_digit b))
+flags_mask : (bs : List ℕ) → number_l 256 (map flag bs) ≡ mask_l (map (λ b. b) (bits bs))
+flags_mask [] = refl
+flags_mask (b ∷ bs) = omega (arith, flags_mask bs, one_flag (is_digit b))
 
 length-bits : (bs : List ℕ) → length (bits bs) ≡ 8 * length bs
 length-bits [] = refl
@@ -166,17 +166,17 @@ run_bits (b ∷ bs) = told (is_digit b) (prefix_len not (bits bs)) (prefix_len i
     told true n k h = omega (arith, h)
     told false n k h = omega arith
 
-run_marked : (bs : List ℕ) (marks : ℕ) → AreEight 256 bs → marks ≡ number_l 256 (map mark bs) → cond (eqb marks 0) 64 (count_trailing_zeros 64 marks) / 8 ≡ prefix_len is_digit bs
-run_marked bs marks eight is =
-    let mask = is ∙ marks_mask bs in
+run_flagged : (bs : List ℕ) (flags : ℕ) → AreEight 256 bs → flags ≡ number_l 256 (map flag bs) → cond (eqb flags 0) 64 (count_trailing_zeros 64 flags) / 8 ≡ prefix_len is_digit bs
+run_flagged bs flags eight is =
+    let mask = is ∙ flags_mask bs in
     ap (λ m. cond (eqb m 0) 64 (count_trailing_zeros 64 m) / 8) mask ∙ ap (λ n. n / 8) (first_set_mask_l (λ b. b) (bits bs) 64 (omega (arith, length-bits bs, eight.0)) (omega arith)) ∙ run_bits bs
 
--- the first mark tells how many digits come before it
-pub none_marked : (bs : List ℕ) (marks : ℕ) → AreEight 256 bs → marks ≡ number_l 256 (map mark bs) → marks ≡ 0 → 8 ≡ prefix_len is_digit bs
-none_marked bs marks eight is none = ap (λ t. cond t 64 (count_trailing_zeros 64 marks) / 8) (sym (eq-eqb marks 0 none)) ∙ run_marked bs marks eight is
+-- the first flag tells how many digits come before it
+pub none_flagged : (bs : List ℕ) (flags : ℕ) → AreEight 256 bs → flags ≡ number_l 256 (map flag bs) → flags ≡ 0 → 8 ≡ prefix_len is_digit bs
+none_flagged bs flags eight is none = ap (λ t. cond t 64 (count_trailing_zeros 64 flags) / 8) (sym (eq-eqb flags 0 none)) ∙ run_flagged bs flags eight is
 
-pub first_marked : (bs : List ℕ) (marks : ℕ) → AreEight 256 bs → marks ≡ number_l 256 (map mark bs) → ¬ (marks ≡ 0) → count_trailing_zeros 64 marks / 8 ≡ prefix_len is_digit bs
-first_marked bs marks eight is some = ap (λ t. cond t 64 (count_trailing_zeros 64 marks) / 8) (sym (ne_eqb marks 0 some)) ∙ run_marked bs marks eight is
+pub first_flagged : (bs : List ℕ) (flags : ℕ) → AreEight 256 bs → flags ≡ number_l 256 (map flag bs) → ¬ (flags ≡ 0) → count_trailing_zeros 64 flags / 8 ≡ prefix_len is_digit bs
+first_flagged bs flags eight is some = ap (λ t. cond t 64 (count_trailing_zeros 64 flags) / 8) (sym (ne_eqb flags 0 some)) ∙ run_flagged bs flags eight is
 
 -- ---- the digits' number
 digit_lane : (b : ℕ) → b < 256 → is_digit b ≡ true → (less_zero b < 10) × (less_zero b ≡ b - 48)

@@ -26,5 +26,5 @@ abbrev pub less_zero : ℕ → ℕ
 less_zero b = bit_xor b 48
 
 -- the high bit of a byte, set where this one is no digit
-abbrev pub mark : ℕ → ℕ
-mark b = if is_digit b then 0 else 128
+abbrev pub flag : ℕ → ℕ
+flag b = if is_digit b then 0 else 128

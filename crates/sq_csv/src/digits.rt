@@ -3,7 +3,7 @@ ghost use Rattle.std.specs.Prelude.{◌≡◌, ◌+◌, ◌-◌, ◌*◌, ◌%�
 ghost use Rattle.std.specs.Int.Digits.{number_from_digits};
 ghost use Rattle.std.specs.List.{prefix_len};
 ghost use Rattle.sq_value.specs.Texts.{is_digit, number_in};
-ghost use Rattle.sq_csv.specs.Lanes.{AreEight, less_zero, mark};
+ghost use Rattle.sq_csv.specs.Lanes.{AreEight, less_zero, flag};
 ghost use lib.Lanes.{number_l};
 
 pub(crate) const BYTES: usize = 8;
@@ -27,8 +27,8 @@ fn word_at(text: &[u8], at: usize) -> u64
 
 // The high bit of each byte that is no digit: only there is its lane 10 or more. No sum carries into the next byte.
 #[inline(always)]
-fn marks_of_others(lanes: u64) -> u64
-    ensures { (bytes : List ℕ) → AreEight 256 bytes → lanes ≡ number_l 256 (map less_zero bytes) → result ≡ number_l 256 (map mark bytes) }
+fn flags_of_others(lanes: u64) -> u64
+    ensures { (bytes : List ℕ) → AreEight 256 bytes → lanes ≡ number_l 256 (map less_zero bytes) → result ≡ number_l 256 (map flag bytes) }
 {
     ((lanes & 0x7f7f_7f7f_7f7f_7f7f) + 0x7676_7676_7676_7676 | lanes) & 0x8080_8080_8080_8080
 }
@@ -62,7 +62,7 @@ pub(crate) fn up_to_eight(text: &[u8], at: usize) -> (usize, u64)
     ensures number { result.0 < 8 → result.1 ≡ number_in (slice_range text.now at (at + result.0)) }
 {
     let lanes = word_at(text, at) ^ 0x3030_3030_3030_3030;
-    let others = marks_of_others(lanes);
+    let others = flags_of_others(lanes);
     if others == 0 {
         return (BYTES, 0);
     }

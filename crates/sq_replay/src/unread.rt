@@ -1,5 +1,5 @@
 // The tuples of a text, line by line.
-ghost use Rattle.std.specs.Prelude.{◌≡◌, ◌<◌, ◌≤◌, ◌++◌, ◌∷◌, [], ◌+◌, ℕ, List, IfOk, IfSome, MatchOption, OnErr, OnOk, drop, length};
+ghost use Rattle.std.specs.Prelude.{◌≡◌, ◌<◌, ◌≤◌, ◌++◌, ◌∷◌, [], ◌+◌, ℕ, List, None, IfOk, IfSome, MatchOption, OnErr, OnOk, drop, length};
 ghost use Rattle.sq_value.specs.declared.Kind.{Kind as K};
 ghost use Rattle.sq_replay.specs.FileLines.{pieces_of, without_mark};
 ghost use Rattle.sq_replay.specs.RecordedTuples.{and_then, tuples_recorded, tuples_left};
@@ -116,9 +116,9 @@ pub(crate) fn read_rest(
     Ok(())
 }
 
-/// Reads the next tuple of a text, where its line isn't read in place.
+/// Reads the next tuple of a text, where there is one.
 #[inline(never)]
-fn read_slowly(unread: &mut Unread) -> Result<Option<Tuple>, AllocError>
+fn read_next(unread: &mut Unread) -> Result<Option<Tuple>, AllocError>
     ensures read { IfOk result (λ o. with_next o (unread_tuples unread.new) ≡ unread_tuples unread.old) }
     ensures err { OnErr result (unread_tuples unread.new ≡ unread_tuples unread.old) }
 {
@@ -145,21 +145,19 @@ fn read_slowly(unread: &mut Unread) -> Result<Option<Tuple>, AllocError>
     }
 }
 
-/// Reads the next tuple of a text, where there is one.
+/// Reads the next tuple of a text in place, where its line lets itself be read so. None says nothing, and then none is read.
 #[inline(always)]
-fn read_next(unread: &mut Unread) -> Result<Option<Tuple>, AllocError>
-    ensures read { IfOk result (λ o. with_next o (unread_tuples unread.new) ≡ unread_tuples unread.old) }
+fn read_in_place(unread: &mut Unread) -> Result<Option<Tuple>, AllocError>
+    ensures read { IfOk result (λ o. IfSome o (λ t. t ∷ unread_tuples unread.new ≡ unread_tuples unread.old)) }
+    ensures none { IfOk result (λ o. o ≡ None → unread_tuples unread.new ≡ unread_tuples unread.old) }
     ensures err { OnErr result (unread_tuples unread.new ≡ unread_tuples unread.old) }
 {
-    if unread.at > unread.text.len() {
+    if unread.returns || unread.at > unread.text.len() {
         return Ok(None);
-    }
-    if unread.returns {
-        return read_slowly(unread);
     }
     let alloc = *unread.text.allocator();
     let mut end = 0usize;
-    if let Some(tuple) = read_at_once(
+    let Some(tuple) = read_at_once(
         alloc,
         &unread.kinds,
         unread.latest,
@@ -167,12 +165,13 @@ fn read_next(unread: &mut Unread) -> Result<Option<Tuple>, AllocError>
         unread.at,
         &mut unread.unquoted,
         &mut end,
-    )? {
-        unread.latest = tuple.time;
-        unread.at = end + 1;
-        return Ok(Some(tuple));
-    }
-    read_slowly(unread)
+    )?
+    else {
+        return Ok(None);
+    };
+    unread.latest = tuple.time;
+    unread.at = end + 1;
+    Ok(Some(tuple))
 }
 
 /// The first tuple of a stream file, where there is one, and what stands behind it.
@@ -189,7 +188,7 @@ pub(crate) fn begun(
 }
 
 /// Takes the tuple that stands first, of a list or else of a text, where there is one.
-#[inline(always)]
+#[inline(never)]
 fn take_first(
     listed: &mut VecDeque<Tuple>,
     unread: &mut Unread,
@@ -203,7 +202,8 @@ fn take_first(
     Ok(listed.pop_front())
 }
 
-/// Takes the next tuple, where there is one, and gets the one behind it.
+/// Takes the next tuple, where there is one, and gets the one behind it. What is read in place is put in its place at once: where
+/// it met what comes by other ways it would be copied, and the copy would wait for what was just written.
 pub(crate) fn take_next(
     next: &mut Option<Tuple>,
     listed: &mut VecDeque<Tuple>,
@@ -216,6 +216,11 @@ pub(crate) fn take_next(
 {
     if next.is_none() {
         return Ok(None);
+    }
+    if listed.is_empty() {
+        if let Some(tuple) = read_in_place(unread)? {
+            return Ok(next.replace(tuple));
+        }
     }
     let behind = take_first(listed, unread)?;
     Ok(std::mem::replace(next, behind))
