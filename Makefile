@@ -60,8 +60,12 @@ install: $(PROGRAM)
 	install -d "$(binaries)" "$(library)/aurora_tools" "$(manual)" "$(completions)" "$(documents)/docs"
 	install -m 755 $(PROGRAM) "$(binaries)/aurora"
 	if [ -f "$(KEYS)" ]; then install -m 755 "$(KEYS)" "$(binaries)/aurora_keys"; fi
-	gzip -9n <docs/aurora.1 >"$(manual)/aurora.1.gz"
+	install -m 644 docs/aurora.1 "$(manual)"
+	tools/pages "$(manual)"
+	if [ ! -f "$(KEYS)" ]; then rm -f "$(manual)/aurora_keys.1"; fi
+	cd "$(manual)" && gzip -9nf aurora*.1
 	install -m 644 tools/completion.bash "$(completions)/aurora"
+	for tool in $(notdir $(tools)); do ln -sf aurora "$(completions)/aurora-$$tool"; done
 	install -m 644 README.md "$(documents)"
 	install -m 644 $(pages) "$(documents)/docs"
 	cp -r examples "$(documents)/"
@@ -71,8 +75,8 @@ install: $(PROGRAM)
 	@echo "installed below $(root): $(if $(filter $(proved_program),$(PROGRAM)),the proved program,a program that is not proved)"
 
 uninstall:
-	for tool in $(notdir $(tools)); do rm -f "$(binaries)/aurora-$$tool"; done
-	rm -f "$(binaries)/aurora" "$(binaries)/aurora_keys" "$(manual)/aurora.1.gz" "$(completions)/aurora"
+	for tool in $(notdir $(tools)); do rm -f "$(binaries)/aurora-$$tool" "$(manual)/aurora-$$tool.1.gz" "$(completions)/aurora-$$tool"; done
+	rm -f "$(binaries)/aurora" "$(binaries)/aurora_keys" "$(manual)/aurora.1.gz" "$(manual)/aurora_keys.1.gz" "$(completions)/aurora"
 	rm -rf "$(library)" "$(documents)"
 
 deb: $(PROGRAM)

@@ -53,4 +53,37 @@ _aurora()
     esac
 }
 
+# The options of the tools, as tools/pages --words tells them.
+_aurora_tool_words()
+{
+    sed -n "s/^${1#aurora-}: //p" <<'WORDS'
+draw: --network --column --seconds
+explain: --program --messages --hints --capacities
+output: --csv --jsonl --sqlite --output --field --tick --origin
+plan: --epoch --full --load
+report: --seconds --title
+shard: --on-time --capacities --work --resume --sshlogin --slurm --merge --program --keys
+stream: --time --unit --zone --tick --origin --down --field --number --missing --true --false --comma --sort --running --form --separator --name --long
+WORDS
+}
+
+_aurora_tool()
+{
+    local word=${COMP_WORDS[COMP_CWORD]} before=${COMP_WORDS[COMP_CWORD - 1]}
+    COMPREPLY=()
+    case $before in
+        --tick) mapfile -t COMPREPLY < <(compgen -W "ns us ms s m h d" -- "$word") ;;
+        --unit) mapfile -t COMPREPLY < <(compgen -W "iso s ms us ns" -- "$word") ;;
+        --form) mapfile -t COMPREPLY < <(compgen -W "csv tsv jsonl clf" -- "$word") ;;
+        *)
+            if [[ $word == -* ]]; then
+                mapfile -t COMPREPLY < <(compgen -W "$(_aurora_tool_words "$1") --help" -- "$word")
+            else
+                mapfile -t COMPREPLY < <(compgen -f -- "$word")
+            fi
+            ;;
+    esac
+}
+
 complete -o filenames -F _aurora aurora
+complete -o filenames -F _aurora_tool aurora-draw aurora-explain aurora-output aurora-plan aurora-report aurora-shard aurora-stream

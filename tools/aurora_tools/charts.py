@@ -69,18 +69,39 @@ def short(value):
     return f"{value:,}"
 
 
+@dataclasses.dataclass
+class Drawn:
+    """A drawing: how high it is, its SVG, what it is in words, the colours that its lines have by their names, and a remark."""
+    height: float
+    inside: str
+    words: str
+    entries: list = ()
+    note: str = ""
+
+
+STYLE = """svg text{font:11px system-ui,sans-serif;fill:#333}svg .end{text-anchor:end}svg .mid{text-anchor:middle}svg .name{font-weight:bold}
+svg .grid{stroke:#e3e3e3;fill:none}svg .frame{stroke:#999;fill:none}svg .gone{fill:#c8c8c8}svg .line{fill:none;stroke-width:1.6}
+svg .over .line{stroke-dasharray:7 7}
+"""
+
+
+def escaped(words):
+    """Returns words for HTML and SVG, what can't be shown as a blank: XML has no such characters."""
+    return html.escape("".join(it if it.isprintable() else " " for it in words))
+
+
 def text(x, y, words, kind="", title=""):
-    kind, title = f' class="{kind}"' if kind else "", f"<title>{html.escape(title)}</title>" if title else ""
-    return f'<text x="{x:.1f}" y="{y:.1f}"{kind}>{title}{html.escape(words)}</text>'
+    kind, title = f' class="{kind}"' if kind else "", f"<title>{escaped(title)}</title>" if title else ""
+    return f'<text x="{x:.1f}" y="{y:.1f}"{kind}>{title}{escaped(words)}</text>'
 
 
 def bar(kind, x, y, width, height, title):
     place = f'x="{x:.1f}" y="{y:.1f}" width="{width:.1f}" height="{height:.1f}"'
-    return f'<rect class="{kind}" {place}><title>{html.escape(title)}</title></rect>'
+    return f'<rect class="{kind}" {place}><title>{escaped(title)}</title></rect>'
 
 
 def dot(x, y, colour, title):
-    said = f"<title>{html.escape(title)}</title>" if title else ""
+    said = f"<title>{escaped(title)}</title>" if title else ""
     return f'<circle cx="{x:.1f}" cy="{y:.1f}" r="2.3" fill="{colour}">{said}</circle>'
 
 
@@ -90,13 +111,18 @@ def level(x, y, width, words):
 
 
 def picture(height, inside, words):
-    return f'<div class="wide"><svg viewBox="0 0 {WIDTH} {height}" role="img" aria-label="{html.escape(words)}">{inside}</svg></div>'
+    return f'<div class="wide"><svg viewBox="0 0 {WIDTH} {height}" role="img" aria-label="{escaped(words)}">{inside}</svg></div>'
 
 
 def legend(entries):
     """Returns colours with their names, as HTML that wraps."""
-    shown = "".join(f'<span><i style="background:{colour}"></i>{html.escape(name)}</span> ' for name, colour in entries)
+    shown = "".join(f'<span><i style="background:{colour}"></i>{escaped(name)}</span> ' for name, colour in entries)
     return f'<p class="legend">{shown}</p>' if entries else ""
+
+
+def on_a_page(drawn):
+    """Returns a drawing with its colours and its remark below it."""
+    return picture(drawn.height, drawn.inside, drawn.words) + legend(drawn.entries) + (note(drawn.note) if drawn.note else "")
 
 
 def note(words):
@@ -174,6 +200,11 @@ def range_of(values):
 
 
 def panel(series, gone, axis, colours):
+    """Returns a field as it stands on a page."""
+    return on_a_page(drawn(series, gone, axis, colours))
+
+
+def drawn(series, gone, axis, colours):
     """Draws a field: its lines in one panel, in small multiples where they are more than eight, or dots where they don't repeat."""
     points = sum(len(it) for it in series.lines.values())
     if not series.field:
@@ -181,7 +212,7 @@ def panel(series, gone, axis, colours):
     if len(series.lines) > MOST_MULTIPLES and points < 3 * len(series.lines):
         together = sorted(point for it in series.lines.values() for point in it if point[1] is not None)
         words = f"{len(series.lines):,} different texts go with it, too many for lines: each tuple is a dot."
-        return one_panel(dataclasses.replace(series, lines={"": together}), gone, axis, colours, joined=False) + note(words)
+        return dataclasses.replace(one_panel(dataclasses.replace(series, lines={"": together}), gone, axis, colours, joined=False), note=words)
     return multiples(series, gone, axis) if len(series.lines) > MOST_LINES else one_panel(series, gone, axis, colours)
 
 
@@ -192,11 +223,11 @@ def one_panel(series, gone, axis, colours, joined=True):
     dots, entries, seen = sum(len(it) for it in series.lines.values()) <= MOST_DOTS, [], set()
     for name, points in sorted(series.lines.items()):
         colour = colours.setdefault(name, COLOURS[sum(it != "" for it in colours) % len(COLOURS)] if name else COLOURS[0])
-        drawn = frame.line(points, gone, colour, dots, joined)
-        parts.append(f'<g class="over">{drawn}</g>' if tuple(points) in seen else drawn)
+        way = frame.line(points, gone, colour, dots, joined)
+        parts.append(f'<g class="over">{way}</g>' if tuple(points) in seen else way)
         seen.add(tuple(points))
         entries += [(name, colour)] if name else []
-    return picture(TOP + height + axis.room, "".join(parts), f"{series.field} over time") + legend(entries)
+    return Drawn(TOP + height + axis.room, "".join(parts), f"{series.field} over time", entries)
 
 
 def multiples(series, gone, axis):
@@ -212,8 +243,8 @@ def multiples(series, gone, axis):
         parts.append(frame.ground(gone, axis.marks(3), levels, at + columns >= len(chosen)))
         parts.append(text(frame.left, frame.top - 4, name[:30], title=name) + frame.line(points, gone, COLOURS[0], False))
     more, height = len(series.lines) - len(chosen), 32 + (high + 22) * -(-len(chosen) // columns) + axis.room - 18
-    drawn = picture(height, "".join(parts), f"{series.field} over time, a panel a line")
-    return drawn + (note(f"{more:,} further lines, with fewer tuples, aren't drawn.") if more else "")
+    said = f"{more:,} further lines, with fewer tuples, aren't drawn." if more else ""
+    return Drawn(height, "".join(parts), f"{series.field} over time, a panel a line", note=said)
 
 
 def events(series, gone, axis):
@@ -229,8 +260,7 @@ def events(series, gone, axis):
         parts += [dot(frame.x(tick), y, COLOURS[at % len(COLOURS)], axis.text(tick)) for tick, _ in shown]
         parts.append(text(LEFT + 6, y - 6, name[:60]))
     more = len(series.lines) - len(names)
-    drawn = picture(TOP + height + axis.room, "".join(parts), "tuples over time")
-    return drawn + (note(f"{more:,} further texts aren't drawn.") if more else "")
+    return Drawn(TOP + height + axis.room, "".join(parts), "tuples over time", note=f"{more:,} further texts aren't drawn." if more else "")
 
 
 def loads(plans):
@@ -248,5 +278,5 @@ def loads(plans):
             parts.append(bar(kind, x - wide / 2, floor - high, wide, high, title))
         parts.append(f'<path class="capacity" d="M{x - wide / 2 - 3:.1f} {floor - plan.capacity / most * tall:.1f}h{wide + 6:.1f}"/>')
         parts += [text(x, floor + 14, f"{plan.epoch:,}", "mid")] if (plan.epoch - first) % every == 0 else []
-    drawn = picture(floor + 22, "".join(parts) + text(LEFT, TOP - 7, "load by epoch", "name"), "load and capacity by epoch")
-    return drawn + legend([("load that the plan leaves, on average", "#4a7ebb"), ("planned saving", "#c9d9ee"), ("capacity", "#c03030")])
+    shown = picture(floor + 22, "".join(parts) + text(LEFT, TOP - 7, "load by epoch", "name"), "load and capacity by epoch")
+    return shown + legend([("load that the plan leaves, on average", "#4a7ebb"), ("planned saving", "#c9d9ee"), ("capacity", "#c03030")])

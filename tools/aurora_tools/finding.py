@@ -2,6 +2,8 @@
 import dataclasses
 import difflib
 
+from .front import clean
+
 WIDTH = 100
 
 
@@ -17,14 +19,14 @@ class Finding:
 
     def lines(self):
         place = self.path + (f":{self.line}" if self.line else "") + ("" if self.column is None else f":{self.column + 1}")
-        yield f"  {place}{': ' if place else ''}{self.words}"
+        yield clean(f"  {place}{': ' if place else ''}{self.words}")
         if self.text is not None:
             shown, column = window(self.text, self.column)
             yield f"    {self.line} | {shown}".rstrip()
             if column is not None:
                 yield f"    {' ' * len(str(self.line))} | {' ' * column}^"
         if self.remedy:
-            yield f"    {self.remedy}"
+            yield clean(f"    {self.remedy}")
 
 
 def window(text, column):

@@ -1,10 +1,20 @@
 """The rules on the lines of streams, capacity and picks files: what of a line breaks a rule, and what to do."""
+import os
 import re
 
 from .finding import Finding, counted, listed, shown_fields
 
 MOST_TICK = 1 << 40
+QUOTED = re.compile(rb'(?:[^"]++|"")*+')
 WHOLE = re.compile(rb"-?[0-9]{1,19}")
+
+
+PACKED = "Unpack it before; aurora-stream unpacks tables by itself."
+OTHER_FORMS = (
+    (b"\x1f\x8b", "packed by gzip", PACKED), (b"\x28\xb5\x2f\xfd", "packed by zstd", PACKED), (b"BZh", "packed by bzip2", PACKED), (b"\xfd7zXZ", "packed by xz", PACKED),
+    (b"PK\x03\x04", "a zip or a spreadsheet", "Unpack it, or save it as CSV."), (b"PAR1", "Parquet", "Write it as CSV before."),
+    (b"\xff\xfe", "UTF-16", "It is mended by: iconv -f UTF-16 -t UTF-8"), (b"\xfe\xff", "UTF-16", "It is mended by: iconv -f UTF-16 -t UTF-8"),
+)
 
 
 def lines_of(path):
@@ -20,11 +30,8 @@ def fields_of(line):
     while True:
         begin, value = at, b""
         if line[at:at + 1] == b'"':
-            at += 1
-            while at < len(line) and (line[at:at + 1] != b'"' or line[at:at + 2] == b'""'):
-                step = 2 if line[at:at + 2] == b'""' else 1
-                value, at = value + line[at:at + 1], at + step
-            at += 1
+            inside = QUOTED.match(line, at + 1)
+            value, at = inside[0].replace(b'""', b'"'), inside.end() + 1
         end = line.find(b",", at)
         end = len(line) if end < 0 else end
         fields.append((value + line[at:end], begin))
@@ -37,10 +44,24 @@ def shown(value):
     return f"`{value.decode(errors='replace')}`" if value else "empty"
 
 
+def other_form(path):
+    """Returns what a file is, and what to do, where its first bytes say that it is no text of UTF-8 at all; else None."""
+    with open(path, "rb") as file:
+        begin = file.read(6)
+    for magic, words, remedy in OTHER_FORMS:
+        if begin.startswith(magic):
+            return Finding(f"the file is {words}", remedy, path, 1)
+    return None
+
+
 def stream_finding(network, name, number, why):
     """Returns what is found of line `number` of the file of a source."""
     source = next(it for it in network.sources if it["name"] == name)
     path, kinds = source["file"], [field.split(":") for field in source["fields"]]
+    if not os.path.isfile(path):
+        return Finding(f"the stream of source `{name}` came from {path}, which is no file and can't be read again", "Keep it in a file, and run again.")
+    if number == 1 and (other := other_form(path)):
+        return other
     lines = lines_of(path)
     line = lines[number - 1]
     words, remedy, place = RULES[why](line, fields_of(line), kinds, lines[:number - 1])
@@ -50,7 +71,7 @@ def stream_finding(network, name, number, why):
 
 
 def too_many(*_):
-    remedy = "Cut the file into several sources of the same fields and put them together by a Union."
+    remedy = "Run its parts, cut by a key: aurora-shard. Or cut the file into several sources of the same fields and put them together by a Union."
     return "a source has at most 1,000,000 tuples, and this line would be one more", remedy, None
 
 
@@ -90,7 +111,7 @@ def tick(_, fields, __, before):
         milliseconds = len(value) >= 13
         remedy = "Milliseconds since 1970 are too great: take seconds, or subtract the start of the day." if milliseconds else ""
     elif re.match(rb"[0-9]{4}-[0-9]{2}|[0-9]+[:/]", value):
-        remedy = "A date is brought to seconds since 1970 before, as by: date +%s -d"
+        remedy = "A date is brought to seconds since 1970 before, as by aurora-stream, or: date +%s -d"
     elif re.fullmatch(rb"[0-9]*\.[0-9]+", value):
         remedy = "A tick is whole: multiply fractions before."
     elif value.startswith(b"-"):
@@ -98,7 +119,7 @@ def tick(_, fields, __, before):
     elif value.strip() != value:
         remedy = "Blanks belong to a field: take them away."
     elif re.match(rb"[A-Za-z_]", value) and not any(before):
-        remedy = "A stream has no line of headings: take it away by sed 1d."
+        remedy = "A stream has no line of headings: take it away by sed 1d, or make the stream by aurora-stream."
     else:
         remedy = "The first field of each line is the tick of arrival."
     return words, remedy, place

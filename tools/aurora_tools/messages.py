@@ -4,6 +4,7 @@ import re
 
 from . import line_rules, meaning_rules, shape_rules
 from .finding import Finding, article, near
+from .front import clean
 from .network import KINDS, Network
 from .places import VALUE, line_and_column
 from .run_words import Words
@@ -114,6 +115,8 @@ def toml_finding(network):
     except UnicodeDecodeError as fault:
         line = network.bytes.count(b"\n", 0, fault.start) + 1
         words = f"the byte {network.bytes[fault.start]:02X} is no UTF-8"
+        if network.bytes[:2] in (b"\xff\xfe", b"\xfe\xff"):
+            return Finding("the file is UTF-16", "It is mended by: iconv -f UTF-16 -t UTF-8", network.path, 1)
         return Finding(words, "A file of another code is mended by: iconv -f LATIN1 -t UTF-8", network.path, line)
     if not network.fault:
         wide = re.search(r"\b[0-9][0-9_]{18,}\b", network.text)
@@ -192,7 +195,7 @@ def too_long(name, given):
     path, line, text, who = who_names(name, given)
     limit = 67_108_864 if line else 1_048_576
     have = f" has {os.path.getsize(name):,} bytes, and" if os.path.isfile(name) else ""
-    remedy = "Cut it into several sources of the same fields and put them together by a Union, or run its parts." if line else ""
+    remedy = "Run its parts, cut by a key: aurora-shard. Or cut it into several sources of the same fields and put them together by a Union." if line else ""
     return Finding(f"{who}{name}{have} may have {limit:,} bytes", remedy, path, line, text)
 
 
@@ -204,4 +207,4 @@ def explained(words, message):
         below = []
     if not below and message.startswith("aurora: "):
         below = ["  nothing more is found out: the manual's parts 9 to 11 have this message"]
-    return "\n".join([message.rstrip("\n"), *below]) + "\n"
+    return "\n".join([clean(message.rstrip("\n")), *below]) + "\n"

@@ -131,61 +131,72 @@ class Network:
         return paired(*taken) if box["kind"] == "join" else taken[1 if box["kind"] == "resample" else 0]
 
     @functools.cached_property
+    def arcs_of(self):
+        """The arcs that each box gives, and those that it takes, by the box's number."""
+        gives, takes = {number: [] for number in range(len(self.boxes))}, {number: [] for number in range(len(self.boxes))}
+        for arc, (stream, (kind, taker)) in enumerate(self.arcs):
+            if self.givers[stream] is not None:
+                gives[self.givers[stream]].append(arc)
+            if kind == "box":
+                takes[taker].append(arc)
+        return gives, takes
+
+    @functools.cached_property
     def drops(self):
         """The drop points, by their numbers."""
+        own = {stream: [] for stream in self.givers}
+        for arc, (stream, _) in enumerate(self.arcs):
+            own[stream].append(arc)
         places = []
-        for stream in self.givers:
-            own = [arc for arc, (name, _) in enumerate(self.arcs) if name == stream]
-            places += [(stream, own)] if own else []
-            places += [(stream, [arc]) for arc in own] if len(own) > 1 else []
-        found = [drop for drop in (self.candidate(stream, own) for stream, own in places) if drop]
-        return [it for it in found if not any(it.arcs != other.arcs and it.arcs <= self.below(other.arcs) for other in found)]
+        for stream, arcs in own.items():
+            places += [(stream, arcs)] if arcs else []
+            places += [(stream, [arc]) for arc in arcs] if len(arcs) > 1 else []
+        found = [(drop, reached) for drop, reached in (self.candidate(*it) for it in places) if drop]
+        return [it for it, _ in found if not any(it.arcs != other.arcs and it.arcs <= reached for other, reached in found)]
 
     def below(self, own):
         """Returns the arcs that are reached from these, and themselves."""
-        reached, waiting = set(own), list(own)
+        reached, waiting, gives = set(own), list(own), self.arcs_of[0]
         while waiting:
             taker, number = self.arcs[waiting.pop()][1]
-            if taker == "box":
-                more = {arc for arc, (stream, _) in enumerate(self.arcs) if self.givers[stream] == number} - reached
-                reached |= more
-                waiting += more
+            more = set(gives[number]) - reached if taker == "box" else ()
+            reached.update(more)
+            waiting += more
         return reached
 
     def candidate(self, stream, own):
-        """Returns the drop that may stand at these arcs of a stream, or None."""
-        reached = self.below(own)
+        """Returns the drop that may stand at these arcs of a stream, or None, and the arcs that it reaches."""
+        reached, takes = self.below(own), self.arcs_of[1]
         boxes = sorted({number for kind, number in (self.arcs[arc][1] for arc in reached) if kind == "box"})
-        outputs = sorted(self.arcs[arc][1][1] for arc in reached if self.arcs[arc][1][0] == "output")
-        inputs = {arc for arc, (_, (kind, number)) in enumerate(self.arcs) if kind == "box" and number in boxes}
-        if not outputs or not inputs <= reached or any(self.boxes[it]["kind"] not in ("filter", "map", "union", "aggregate") for it in boxes):
-            return None
         ends = [arc for arc in reached if self.arcs[arc][1][0] == "output"]
+        outputs = sorted(self.arcs[arc][1][1] for arc in ends)
+        kinds = {self.boxes[it]["kind"] for it in boxes}
+        if not outputs or kinds - {"filter", "map", "union", "aggregate"} or any(not reached.issuperset(takes[it]) for it in boxes):
+            return None, reached
         known = {}
         for arc in reached:
             self.ways(arc, frozenset(own), known)
         last = set().union(*(known[arc][0] for arc in ends))
         if None in last:
-            return None
+            return None, reached
         length = self.table.get("batch", 1) * math.lcm(*(self.boxes[it]["advance"] for it in last))
         reach = max(known[arc][1] for arc in reached)
-        return Drop(stream, frozenset(own), boxes, outputs, length, reach)
+        return Drop(stream, frozenset(own), boxes, outputs, length, reach), reached
 
     def ways(self, arc, own, known):
         """Notes of an arc the last Aggregates on the ways to it from a place, None for a way without one, and how far back they reach."""
         if arc in own:
             known[arc] = ({None}, 0)
         if arc in known:
-            return known
+            return known[arc]
         number = self.givers[self.arcs[arc][0]]
-        last, reach = set(), 0
-        for into, (_, taker) in enumerate(self.arcs):
-            if taker == ("box", number):
-                self.ways(into, own, known)
-                last, reach = last | known[into][0], max(reach, known[into][1])
-        box = self.boxes[number]
-        known[arc] = ({number}, reach + box["size"] - 1) if box["kind"] == "aggregate" else (last, reach)
-        return known
+        if ("box", number) not in known:
+            before = [self.ways(into, own, known) for into in self.arcs_of[1][number]]
+            last, reach = set().union(*(it for it, _ in before)), max(it for _, it in before)
+            box = self.boxes[number]
+            known["box", number] = ({number}, reach + box["size"] - 1) if box["kind"] == "aggregate" else (last, reach)
+        known[arc] = known["box", number]
+        return known[arc]
 
 
 def paired(left, right):
@@ -215,13 +226,18 @@ def read(path):
         network = Network(path)
         if network.fault:
             raise Unreadable(f"{path}: {network.fault}")
+        for part in (network.sources, network.boxes, network.outputs):
+            if not all(is_name(it["name"]) for it in part):
+                raise Unreadable(f"{path} is no network that aurora runs: a name is none (`aurora run {path}` says which)")
         for stream in network.givers:
             network.fields(stream)
         _ = network.drops
-        if not network.outputs or any(stream not in network.givers for stream, _ in network.arcs):
+        if not network.outputs:
+            raise Unreadable(f"{path} has no output: it is no network that aurora runs")
+        if any(stream not in network.givers for stream, _ in network.arcs):
             raise Unreadable(f"{path} has an output or box that takes no stream of it")
         return network
-    except (KeyError, IndexError, TypeError, ValueError, StopIteration, RecursionError) as fault:
+    except (KeyError, IndexError, TypeError, ValueError, AttributeError, StopIteration, RecursionError) as fault:
         raise Unreadable(f"{path} is no network that aurora runs (`aurora run {path}` says why)") from fault
     except OSError as fault:
         raise Unreadable(f"{path}: {fault.strerror}") from fault

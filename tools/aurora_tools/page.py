@@ -13,9 +13,6 @@ h1{font-size:1.5em}h2{font-size:1.2em;margin:1.8em 0 .4em;border-bottom:1px soli
 table{border-collapse:collapse;font-size:.93em;margin:.5em 0}th,td{border:1px solid #ccc;padding:.15em .6em;text-align:right;white-space:nowrap}
 th{background:#f3f3f3}th:first-child,td:first-child{text-align:left}.note{color:#555;font-size:.93em}
 .state{padding:.5em .8em;border-left:5px solid}.good{background:#e9f6e9;border-color:#3a8f3a}.bad{background:#fdeaea;border-color:#c03030}
-svg text{font:11px system-ui,sans-serif;fill:#333}svg .end{text-anchor:end}svg .mid{text-anchor:middle}svg .name{font-weight:bold}
-svg .grid{stroke:#e3e3e3;fill:none}svg .frame{stroke:#999;fill:none}svg .gone{fill:#c8c8c8}svg .line{fill:none;stroke-width:1.6}
-svg .over .line{stroke-dasharray:7 7}
 svg .kept{fill:#4a7ebb}svg .saved{fill:#c9d9ee}svg .capacity{stroke:#c03030;stroke-width:2}
 """
 MOST_SPANS, MOST_PLANS = 12, 300
@@ -95,7 +92,7 @@ def made(network, run, title, seconds):
     """Returns the page."""
     axis, picture = axis_of(network, run, seconds), graph.drawn(network, run)
     parts = ['<!doctype html><html lang="en"><meta charset="utf-8"><meta name="viewport" content="width=device-width">']
-    parts.append(f"<title>{html.escape(title)}</title><style>{STYLE}</style><h1>{html.escape(title)}</h1>{state(network, run)}<h2>Network</h2>")
+    parts.append(f"<title>{html.escape(title)}</title><style>{STYLE}{charts.STYLE}</style><h1>{html.escape(title)}</h1>{state(network, run)}<h2>Network</h2>")
     parts.append(f'<div class="wide network">{picture}</div>' if picture else "<p>Not drawn: Graphviz wasn't there.</p>")
     colours = {}
     parts.append("<h2>Outputs</h2>")

@@ -5,7 +5,9 @@ TOKEN = re.compile(
     r'(?P<text>"""(?:\\.|[^\\])*?"""|\'\'\'.*?\'\'\'|"(?:\\.|[^"\\\n])*"|\'[^\'\n]*\')'
     r"|(?P<comment>#[^\n]*)|(?P<open>[\[{])|(?P<close>[\]}])|(?P<comma>,)|(?P<newline>\n)|(?P<blank>[^\S\n]+)|(?P<word>[^\s,\[\]{}#\"']+|.)",
     re.DOTALL)
-HEADER = re.compile(r"\[\[?[ \t]*([^\[\]\n]*?)[ \t]*\]\]?")
+HEADER = re.compile(r"\[\[?([^\[\]\n]*)\]\]?")
+# Where one long text isn't closed none behind it is looked for: each would be looked for up to the end.
+SHORT_TOKEN = re.compile(TOKEN.pattern.replace(r'"""(?:\\.|[^\\])*?"""|\'\'\'.*?\'\'\'|', ""), re.DOTALL)
 KEY = re.compile(r"([A-Za-z0-9_-]+|\"[^\"\n]*\"|'[^'\n]*')[ \t]*=")
 VALUE = "="
 
@@ -15,11 +17,12 @@ class Places:
 
     def __init__(self, text):
         self.text, self.tables, self.keys, counts, part = text, {("", 0): 0}, {}, {}, ("", 0)
+        self.tokens = TOKEN
         at = 0
         while at < len(text):
             header, key = HEADER.match(text, at), KEY.match(text, at)
             if header:
-                name = header[1].strip("\"'")
+                name = header[1].strip(" \t").strip("\"'")
                 part = (name, counts.get(name, 0))
                 counts[name] = part[1] + 1
                 self.tables[part] = at
@@ -28,14 +31,19 @@ class Places:
                 self.keys[part, key[1].strip("\"'")] = at
                 at = self.value(key.end(), (part, key[1].strip("\"'")))
             else:
-                found = TOKEN.match(text, at)
-                at = found.end()
+                at = self.token(at).end()
+
+    def token(self, at):
+        found = self.tokens.match(self.text, at)
+        if found[0] in ('""', "''") and self.text.startswith(found[0] + found[0][0], at):
+            self.tokens = SHORT_TOKEN
+        return found
 
     def value(self, at, key):
         """Notes where a value's entries stand, those in lists of lists too, and returns where it ends."""
         path = []
         while at < len(self.text):
-            found = TOKEN.match(self.text, at)
+            found = self.token(at)
             kind = found.lastgroup
             if kind in ("text", "open", "word"):
                 self.keys.setdefault((*key, *(path or [VALUE])), at)

@@ -2,14 +2,25 @@
 import collections
 import csv
 import io
+import re
 import sys
 
+NUMBER = re.compile(r"[0-9]{1,40}")
+MOST_TICK = 1 << 40
+LINES = {"int": re.compile(r"(?>(?>-?+[0-9]{1,19}+)?+\n)*+"), "bool": re.compile(r"(?>(?>true|false)?+\n)*+")}
 Plan = collections.namedtuple("Plan", "epoch load capacity saved verdict")
 Batch = collections.namedtuple("Batch", "drop number level")
 
 
 class Strange(Exception):
     """A text that no run writes, or not the run of this network."""
+
+
+def number(text):
+    """Returns a number as a run writes it, which has digits alone."""
+    if not NUMBER.fullmatch(text):
+        raise ValueError(text)
+    return int(text)
 
 
 class Run:
@@ -20,26 +31,28 @@ class Run:
         with open(sys.stdin.fileno() if path == "-" else path, encoding="utf-8", newline="") as file:
             text = file.read()
         last, reader = [], csv.reader(io.StringIO(text[:text.rfind("\n") + 1], newline=""))
-        for row in reader:
-            try:
+        try:
+            for row in reader:
+                last = row
                 self.take(row)
-            except (ValueError, IndexError) as fault:
-                raise Strange(f"line {reader.line_num} of the text is none that a run writes: {','.join(row)[:80]}") from fault
-            last = row
+        except (ValueError, IndexError, TypeError, csv.Error) as fault:
+            raise Strange(f"line {reader.line_num} of the text is none that a run writes: {','.join(last)[:80]}") from fault
         self.whole = last == ["@end"] and text.endswith("\n")
 
     def take(self, row):
         kind = row[0]
         if kind == "@plan":
-            self.plans.append(Plan(*(int(it) for it in row[1:5]), row[5]))
+            self.plans.append(Plan(*(number(it) for it in row[1:5]), row[5]))
         elif kind == "@drop":
-            self.batches.append(Batch(*(int(it) for it in row[1:4])))
+            self.batches.append(Batch(*(number(it) for it in row[1:4])))
         elif kind == "@box":
-            self.fed[row[1]] = int(row[2])
+            self.fed[row[1]] = number(row[2])
         elif kind == "@late":
-            self.late[row[1]] = int(row[2])
+            self.late[row[1]] = number(row[2])
         elif kind != "@end":
-            self.rows.setdefault(kind, []).append((int(row[1]), row[2:]))
+            if (tick := number(row[1])) >= MOST_TICK:
+                raise ValueError(row[1])
+            self.rows.setdefault(kind, []).append((tick, row[2:]))
 
     def shown(self, output):
         return self.rows.get(output["name"], [])
@@ -50,6 +63,8 @@ def agree(network, run):
     unknown = sorted(run.fed.keys() - {box["name"] for box in network.boxes} | run.rows.keys() - {output["name"] for output in network.outputs})
     if unknown:
         raise Strange(f"{network.path} has no {', '.join(unknown)}, of which the text tells: it is the run of another network")
+    if any(batch.drop < len(network.drops) and batch.number * network.drops[batch.drop].length >= MOST_TICK for batch in run.batches):
+        raise Strange("the text tells of a batch behind all ticks")
     if any(batch.drop >= len(network.drops) for batch in run.batches):
         raise Strange(f"the text tells of drop {max(it.drop for it in run.batches)}, and {network.path} has {len(network.drops)} drop points")
     gone = {(batch.drop, batch.number) for batch in run.batches}
@@ -63,6 +78,17 @@ def agree(network, run):
             if len(fields) != width:
                 raise Strange(f"{output['name']} has a line with {len(fields)} fields, and {width} in {network.path}, "
                               "which isn't the network of this run")
+        look_at_kinds(network, output, run.shown(output))
+
+
+def look_at_kinds(network, output, rows):
+    """Raises Strange where a field of an output isn't of its kind."""
+    fields = network.fields(output["from"])
+    for at, (name, kind) in enumerate(fields.items()):
+        cells = [row[at] for _, row in rows] if kind in LINES else []
+        lines = "\n".join(cells) + "\n" if cells else ""
+        if lines.count("\n") != len(cells) or cells and not LINES[kind].fullmatch(lines):
+            raise Strange(f"{output['name']} has a line whose `{name}` isn't of the kind {kind}, which it is in {network.path}: that isn't the network of this run")
 
 
 def drop_above(network, output):

@@ -33,4 +33,20 @@ offers "" aurora audit front.toml text ""
 offers "front.toml" aurora tap ""
 offers "" aurora tap front.toml ""
 offers "front.toml" aurora tap front.toml tens 60 0 fr
+
+# offers_of WANTED TOOL WORD..: the last word is to be completed.
+offers_of() {
+    local wanted=$1
+    COMP_WORDS=("${@:2}") COMP_CWORD=$(($# - 2))
+    _aurora_tool "$2"
+    if [ "${COMPREPLY[*]}" != "$wanted" ]; then
+        echo "${COMP_WORDS[*]}: '${COMPREPLY[*]}' for '$wanted'"
+        failed=1
+    fi
+}
+
+offers_of "--unit" aurora-stream --u
+offers_of "ns us ms s m h d" aurora-stream --tick ""
+offers_of "--hints --help" aurora-explain --h
+offers_of "capacity.csv" aurora-plan front.toml cap
 exit $failed

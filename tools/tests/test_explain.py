@@ -1,10 +1,12 @@
 """Mistakes in the files of a run: the program refuses each, and the tool names the line of the mistake and says what is wrong there."""
+import gzip
 import os
 import re
 import shutil
 import subprocess
 import sys
 import tempfile
+import time
 import unittest
 
 from aurora_tools.messages import explained
@@ -230,6 +232,37 @@ class Mistakes(unittest.TestCase):
         told, below = self.refused("plant.toml")
         self.assertEqual(told, "aurora: stream readings: line 1: Utf8")
         self.assertIn("FC in field 1", below)
+
+    def test_files_that_are_no_text_at_all(self):
+        for made, words in ((gzip.compress(STREAM.encode()), "packed by gzip"), (STREAM.encode("utf-16"), "iconv -f UTF-16"), (b"PAR1....", "Parquet")):
+            with open("readings.csv", "wb") as file:
+                file.write(made)
+            told, below = self.refused("plant.toml")
+            self.assertIn("aurora: stream readings: line 1: ", told)
+            self.assertIn(words, below)
+
+    def test_a_stream_of_a_pipe_is_not_read_again(self):
+        os.unlink("readings.csv")
+        os.mkfifo("readings.csv")
+        run = subprocess.run([f"{os.path.dirname(HERE)}/explain", "--messages", "-", "plant.toml"], input="aurora: stream readings: line 1: Fields\n",
+                             capture_output=True, encoding="utf-8", timeout=20)
+        self.assertIn("is no file and can't be read again", run.stdout)
+
+    def test_nothing_reaches_a_terminal_that_is_not_printable(self):
+        self.write("readings.csv", "1,a,\x1b]0;TITLE\x07\u202e,true\n")
+        told, below = self.refused("plant.toml")
+        self.assertEqual(told, "aurora: stream readings: line 1: NotInt")
+        self.assertTrue(all(it.isprintable() or it == "\n" for it in below), below)
+        self.assertIn("\\x1b]0;TITLE", below)
+
+    def test_long_open_quotes_and_blanks_take_no_time(self):
+        self.write("readings.csv", '1,"' + "x" * 300_000 + "\n")
+        begun = time.process_time()
+        self.refused("plant.toml")
+        for text in ("[" + " " * 20_000, '\\"""\n' * 4000, "a = '''\n" * 4001):
+            self.write("plant.toml", text)
+            self.assertEqual(self.refused("plant.toml")[0], "aurora: network: Toml")
+        self.assertLess(time.process_time() - begun, 5)
 
     def test_capacities_and_picks(self):
         for text, line, words in CAPACITIES:

@@ -17,10 +17,13 @@ PATH="$room/my place/bin:$PATH"
 (cd "$room/my place/share/doc/aurora/examples/desk" && aurora run desk.toml >"$room/text" && aurora-output --csv - --output averages desk.toml "$room/text") |
     diff - <(echo time,symbol,trades,average; grep ^averages examples/desk/expected.txt | cut -d, -f2-) || fail "the installed program or tool doesn't answer"
 for tool in plan stream output; do
-    "aurora-$tool" --help | grep -q "tools/$tool" || fail "aurora-$tool isn't installed"
+    "aurora-$tool" --help | grep -q "aurora-$tool" || fail "aurora-$tool isn't installed"
 done
 [ -f "$room/my place/share/doc/aurora/examples/first/../../docs/network.schema.json" ] || fail "examples don't find their schema"
 [ "$(gzip -dc "$room/my place/share/man/man1/aurora.1.gz")" = "$(cat docs/aurora.1)" ] || fail "the manual page isn't installed"
+for tool in plan stream output; do
+    gzip -dc "$room/my place/share/man/man1/aurora-$tool.1.gz" | grep -q '^.SH SYNOPSIS' || fail "aurora-$tool has no manual page"
+done
 make -s uninstall PREFIX="$room/my place" || fail "make uninstall failed"
 [ -z "$(find "$room/my place" -type f -o -type l)" ] || fail "something is left: $(find "$room/my place" -type f -o -type l)"
 

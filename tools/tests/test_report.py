@@ -5,6 +5,7 @@ import shutil
 import subprocess
 import tempfile
 import unittest
+import xml.etree.ElementTree
 
 from aurora_tools import charts, network, run_text, series
 
@@ -197,16 +198,66 @@ class Page(Files):
         for words in ("batches of 30", "5 left out", "fed 153", "asked = count, slowest = max millis"):
             self.assertIn(words, page)
 
-    @unittest.skipUnless(shutil.which("gnuplot"), "gnuplot isn't installed")
-    def test_a_picture(self):
+    def test_a_script_of_a_name_makes_no_page(self):
+        for name in ("x.\"]; s0 [URL=\"javascript:alert(1)\"", "../../out"):
+            net = self.write("hostile.toml", f"version = 1\n[[source]]\nname = '{name}'\nfile = 's.csv'\nfields = ['v:int']\n[[output]]\nname = 'o'\nfrom = '{name}'\n")
+            self.assertEqual(self.report("@end\n", net=net)[1], "")
+
+
+class Picture(Files):
+    def draw(self, text, *words, net=FRONT, picture="picture.svg", path=None):
+        """Returns the status, what is said, and the picture."""
+        env = {**os.environ, "PATH": path} if path else None
+        where = os.path.join(self.room.name, picture)
+        run = subprocess.run([shutil.which("python3"), f"{TOOLS}/draw", "--network", net, *words, self.write("text", text), where], capture_output=True, encoding="utf-8", env=env)
+        drawn = None
+        if os.path.exists(where):
+            with open(where, "rb") as file:
+                drawn = file.read()
+        return run.returncode, run.stderr, drawn
+
+    def front(self):
         with open(f"{TOOLS}/../examples/overload/expected.txt", encoding="utf-8") as file:
-            text = self.write("text", file.read())
-        picture = f"{self.room.name}/picture.svg"
-        drawn = [f"{TOOLS}/draw", "--network", FRONT, "--column", "asked=asked"]
-        subprocess.run([*drawn, text, picture], check=True, capture_output=True)
-        with open(picture, encoding="utf-8") as file:
-            self.assertIn("slowest", file.read())
-        self.assertNotEqual(subprocess.run([*drawn, "--column", "asked=service", text, picture], capture_output=True).returncode, 0)
+            return file.read()
+
+    def test_the_overloaded_front(self):
+        _, said, drawn = self.draw(self.front())
+        self.assertEqual(said, "")
+        words = "".join(it.text or "" for it in xml.etree.ElementTree.fromstring(drawn).iter())
+        for word in ("asked", "slowest", "cart", "pay", "search", "left out: 80 to 129"):
+            self.assertIn(word, words)
+        self.assertIn("asked", self.draw(self.front(), "--column", "asked=asked")[2].decode())
+
+    def test_texts_and_names_run_nothing_and_make_whole_xml(self):
+        net = self.write("n.toml", "version = 1\n[[source]]\nname = 's'\nfile = 's.csv'\nfields = ['k:text', 'v:int']\n[[output]]\nname = 'o'\nfrom = 's'\n")
+        rows = "".join(f"o,{at},\"{at}{' ' * (160 + at)}!touch {self.room.name}/RUN #\x00\x1b[2J</svg><script>\u202e'\",{at}\n" for at in range(7))
+        status, said, drawn = self.draw(rows + "@end\n", net=net, picture=f"|touch {self.room.name.replace('/', '_')} #.svg")
+        self.assertEqual((status, said), (0, ""))
+        xml.etree.ElementTree.fromstring(drawn)
+        self.assertNotIn(b"<script", drawn)
+        self.assertEqual(len(os.listdir(self.room.name)), 3)
+
+    def test_what_cannot_be_drawn_is_told(self):
+        for words, why in ((("--column", "asked=service"), "has no number `service`"), (("--column", "nope=asked"), "the outputs are asked")):
+            status, said, drawn = self.draw(self.front(), *words)
+            self.assertEqual((status, drawn), (1, None))
+            self.assertIn(why, said)
+        self.assertIn("ends neither in .svg nor in .png", self.draw(self.front(), picture="x.pdf")[1])
+        self.assertIn("librsvg2-bin", self.draw(self.front(), picture="x.png", path=self.room.name)[1])
+        self.assertIn("no line of an output", self.draw("@end\n")[1])
+        self.assertIn("asked has a line whose `asked` isn't of the kind int", self.draw("asked,0,cart,x,48\n@end\n")[1])
+
+    def test_nothing_that_is_read_is_written_over(self):
+        with open(FRONT, encoding="utf-8") as file:
+            net = self.write("front.svg", file.read())
+        status, said, drawn = self.draw(self.front(), net=net, picture="front.svg")
+        self.assertEqual(status, 1)
+        self.assertIn("it isn't written over", said)
+        self.assertIn(b"version", drawn)
+
+    @unittest.skipUnless(shutil.which("rsvg-convert"), "rsvg-convert isn't installed")
+    def test_a_picture_of_points(self):
+        self.assertTrue(self.draw(self.front(), picture="x.png")[2].startswith(b"\x89PNG"))
 
 
 if __name__ == "__main__":

@@ -1,5 +1,7 @@
 #!/usr/bin/env python3
 """What parts make is what the whole run makes, and a network that has no such parts is refused by name."""
+import csv
+import io
 import os
 import shutil
 import subprocess
@@ -234,6 +236,29 @@ class Parts(unittest.TestCase):
         said = self.shard("net.toml", "trades=symbol", "4")
         self.assertRegex(said.stderr, r"^shard: part \d would have 1,000,001 lines of source trades, and a run takes 1,000,000: ")
         self.assertEqual((said.stdout, said.returncode, os.path.exists(f"{self.room}/parts")), ("", 6, False))
+
+    def test_a_folder_of_others_is_left_alone(self):
+        os.mkdir(f"{self.room}/mine")
+        self.write("mine/thesis.txt", "precious")
+        self.write("trades.csv", "2,h,3\n" + "3,h,4\n" * 1_000_000)
+        self.refused("mine has thesis.txt, which is no part: name another folder by --work", 2, "--resume", "--work", "mine", "net.toml", "trades=symbol", "4")
+        os.remove(f"{self.room}/mine/thesis.txt")
+        os.makedirs(f"{self.room}/mine/part-7")
+        self.assertEqual(self.shard("--resume", "--work", "mine", "net.toml", "trades=symbol", "4").returncode, 6)
+        self.assertEqual(os.listdir(f"{self.room}/mine"), ["part-7"])
+        self.write("mine/plan.json", "{")
+        self.refused("mine/plan.json isn't whole: take the folder away and begin anew", 2, "--resume", "--work", "mine", "net.toml", "trades=symbol", "4")
+
+    def test_texts_over_the_end_of_a_line_stay_whole(self):
+        self.write("net.toml", "version = 1\n[[source]]\nname = \"s\"\nfile = \"s.csv\"\nfields = [\"k:text\"]\n[[box]]\nname = \"m\"\nkind = \"map\"\nin = [\"s\"]\n"
+                   "set = [[\"k\", \"k\"], [\"t\", \"'one\\no,9,forged\\n@end\\n\\\"'\"]]\n[[output]]\nname = \"o\"\nfrom = \"m\"\n")
+        self.write("s.csv", "".join(f"{at},{at % 7}\n" for at in range(30)))
+        said = self.shard("net.toml", "s=k", "3")
+        self.assertEqual((said.stderr, said.returncode), ("", 0))
+        rows = list(csv.reader(io.StringIO(said.stdout)))
+        self.assertEqual(rows[-1], ["@end"])
+        shown = sorted((int(row[1]), *row[2:]) for row in rows if row[0] == "o")
+        self.assertEqual(shown, [(at, str(at % 7), 'one\no,9,forged\n@end\n"') for at in range(30)])
 
     @unittest.skipUnless(os.path.exists("/dev/full"), "there is no /dev/full")
     def test_an_answer_that_cannot_be_written_is_told(self):

@@ -1,9 +1,17 @@
 #!/usr/bin/env python3
 """Tables become the streams that are expected of them, and what can't be written exactly is refused by its line."""
+import datetime
+import gzip
 import os
+import shutil
+import signal
 import subprocess
 import tempfile
+import time
 import unittest
+
+from aurora_tools import moments
+from aurora_tools.tables import Refused
 
 TOOLS = os.path.dirname(os.path.dirname(os.path.abspath(__file__)))
 ISO = "%Y-%m-%dT%H:%M:%SZ"
@@ -28,6 +36,8 @@ class Streams(unittest.TestCase):
             return stream.read().split("\n")[:-1], ran.stdout.split("\n")
 
     def refused(self, why, text, *words, name="t.csv"):
+        if os.path.exists(f"{self.room}/made.csv"):
+            os.unlink(f"{self.room}/made.csv")
         ran = self.run_on(text, *words, name=name)
         self.assertEqual((ran.returncode, ran.stdout), (1, ""))
         self.assertIn(why, ran.stderr)
@@ -127,3 +137,138 @@ class Streams(unittest.TestCase):
         self.refused("is no name of a field", "t,And\n1,1\n", "--time", "t")
         self.refused("--field w:int", "t,v\n1,1\n", "--time", "t", "--field", "w:int")
         self.refused("a list or an object is no field", '{"t": 1, "v": [2]}\n', "--time", "t", name="t.jsonl")
+
+    def test_iso_times_are_known_by_themselves_with_offsets_and_fractions(self):
+        self.assertEqual(self.made("t,v\n2026-03-01,1\n2026-03-01 01:00:05+01:00,2\n2026-03-01T00:00:06Z,3\n20260301T000007Z,4\n", "--time", "t")[0],
+                         ["1772323200,1", "1772323205,2", "1772323206,3", "1772323207,4"])
+        words = ("--time", "t", "--tick", "ms", "--origin", "2026-03-01")
+        self.assertEqual(self.made("t,v\n2026-03-01T00:00:05.25Z,1\n2026-03-01T00:00:05,251Z,2\n".replace("05,", "05."), *words)[0], ["5250,1", "5251,2"])
+        self.assertEqual(self.made("t,v\n1772323205250,1\n", *words, "--unit", "ms")[0], ["5250,1"])
+        self.assertEqual(self.made("t,v\n01.03.2026 00:00:05,1\n", *words, "--unit", "%d.%m.%Y %H:%M:%S")[0], ["5000,1"])
+        self.refused("line 2, t: 2026-02-30 is no day", "t,v\n2026-02-30,1\n", "--time", "t")
+        self.refused("24:00:00 is no time of day", "t,v\n2026-02-28T24:00:00Z,1\n", "--time", "t")
+        self.refused("is finer than a nanosecond", "t,v\n2026-02-28T20:00:00.0000000001Z,1\n", "--time", "t")
+        self.refused("lies between two ticks", "t,v\n2026-02-28T20:00:00.5Z,1\n", "--time", "t")
+        self.refused("say --origin 2026-03-01", "t,v\n2026-03-01T20:00:00.5Z,1\n", "--time", "t", "--tick", "ms")
+        self.refused("are these ms, us or ns?", "t,v\n1772323205250,1\n", "--time", "t")
+
+    def test_forms_are_read_as_strptime_reads_them(self):
+        forms = ("%Y-%m-%d %H:%M:%S", "%d/%b/%Y:%H:%M:%S %z", "%d.%m.%Y %H:%M", "%Y%m%dT%H%M%S.%f%z", "%H:%M:%S", "%S %Y %d %m", "%d %B %Y %H:%M:%S", "%j %Y",
+                 "%I:%M:%S %p %d.%m.%Y", "(%Y) %m %d %H:%M:%S", "%y%m%d %H%M%S", "%%%Y%m%d %S")
+        zones = [datetime.timezone(datetime.timedelta(minutes=it)) for it in (0, 60, -330)]
+        for form in forms:
+            times = [datetime.datetime(1999 + it, it % 12 + 1, it % 28 + 1, it % 24, it * 7 % 60, it * 11 % 60, it * 250_000 % 10**6, zones[it % 3]) for it in range(30)]
+            cells = [it.strftime(form) for it in times] + ["1/1/1", ""]
+            reader = moments.Form(form, moments.utc)
+            for cell, many in zip(cells, reader.all(cells[:30]) or [None] * 30):
+                moment = datetime.datetime.strptime(cell, form)
+                past = (moment if moment.tzinfo else moment.replace(tzinfo=datetime.timezone.utc)) - moments.EPOCH
+                wanted = (past.days * 86400 + past.seconds) * 10**9 + past.microseconds * 1000
+                self.assertEqual((reader.one(cell), many or wanted), (wanted, wanted), (form, cell))
+            self.assertRaises(Refused, reader.one, "1/1/1")
+
+    def test_times_of_a_zones_clock(self):
+        words = ("--time", "t", "--zone", "Europe/Berlin")
+        rows = "t,v\n2026-03-29T01:59:59,1\n2026-03-29T03:00:00,2\n2026-03-29T01:00:01Z,3\n2026-10-25T01:59:59,4\n2026-10-25T03:00:00,5\n"
+        self.assertEqual(self.made(rows, *words)[0], ["1774745999,1", "1774746000,2", "1774746001,3", "1792886399,4", "1792893600,5"])
+        self.assertEqual(self.made("t,v\n01.07.2026 12:00:00,1\n", *words, "--unit", "%d.%m.%Y %H:%M:%S")[0], ["1782900000,1"])
+        self.assertEqual(self.made("t,v\n2026-07-01,1\n", *words, "--origin", "2026-07-01")[0], ["0,1"])
+        self.refused("2026-03-29 02:30:00 stands never on the clocks of Europe/Berlin", "t,v\n2026-03-29 02:30:00,1\n", *words)
+        self.refused("2026-10-25 02:30:00 stands twice on the clocks of Europe/Berlin", "t,v\n2026-10-25T02:30:00,1\n", *words)
+        self.refused("there is no such zone here", "t,v\n2026-10-25T02:30:00,1\n", "--time", "t", "--zone", "Nowhere/../x")
+
+    def test_what_turns_out_late_changes_the_rows_before(self):
+        many = "".join(f"{it},{it % 7}\n" for it in range(60_000))
+        lines, table = self.made(f"t,v\n{many}60000,1.25\n", "--time", "t")
+        self.assertEqual((lines[0], lines[3], lines[-1]), ("0,0", "3,300", "60000,125"))
+        self.assertEqual(self.made(f"t,v\n{many}60000,x\n", "--time", "t")[0][3], "3,3")
+        rows = "".join(f'{{"t": {it}, "v": {it % 7}}}\n' for it in range(5000))
+        lines, table = self.made(rows + '{"t": 5000, "w": true}\n', "--time", "t", name="t.jsonl")
+        self.assertEqual((lines[3], lines[-1]), ("3,3,", "5000,,true"))
+        self.refused("line 60003, v: 1.5 is no whole number", f'"t",v\n{many}60000,"1"\n60001,1.5\n', "--time", "t", "--field", "v:int")
+        self.refused("line 60002: its time is before", f"t,v\n{many}1,1\n", "--time", "t")
+
+    def test_quotes_and_line_feeds_from_somewhere_on(self):
+        many = "".join(f"{it},a\n" for it in range(60_000))
+        lines, _ = self.made(f't,v\n{many}60000,"b, c"\n\n60001,d\n', "--time", "t")
+        self.assertEqual(lines[-3:], ["59999,a", '60000,"b, c"', "60001,d"])
+        self.refused("line 60005, v: a text over 255 bytes, or with a line feed", f't,v\n{many}60000,"b"\n\n60001,"d\ne"\n', "--time", "t")
+
+    def test_sorting_is_stable_over_many_blocks(self):
+        rows = [(it * 7919 % 50_021, it) for it in range(60_000)]
+        lines, _ = self.made("t,v\n" + "".join(f"{a},{b}\n" for a, b in rows), "--time", "t", "--sort")
+        self.assertEqual(lines, [f"{a},{b}" for a, b in sorted(rows, key=lambda it: it[0])])
+
+    def test_packed_tables_are_unpacked(self):
+        with gzip.open(f"{self.room}/t.csv.gz", "wt") as table:
+            table.write("t,v\n1,2\n")
+        if shutil.which("zstd"):
+            with open(f"{self.room}/t.csv.zst", "wb") as table:
+                table.write(subprocess.run(["zstd", "-q"], input=b"t,v\n1,2\n", capture_output=True, check=True).stdout)
+        for name in filter(lambda it: os.path.exists(f"{self.room}/{it}"), ("t.csv.gz", "t.csv.zst")):
+            ran = subprocess.run([f"{TOOLS}/stream", "--time", "t", name, "-"], cwd=self.room, capture_output=True, text=True)
+            self.assertEqual(ran.stdout, "1,2\n", ran.stderr)
+            with open(f"{self.room}/{name}", "rb") as table:
+                whole = table.read()
+            with open(f"{self.room}/{name}", "wb") as table:
+                table.write(whole[:-6])
+            ran = subprocess.run([f"{TOOLS}/stream", "--time", "t", name, "s.csv"], cwd=self.room, capture_output=True, text=True)
+            self.assertEqual((ran.returncode, os.path.exists(f"{self.room}/s.csv")), (1, False), ran.stderr)
+
+    def test_a_decimal_comma_is_told_and_read(self):
+        text = "t;v\n1;12,5\n2;3,25\n"
+        self.assertIn("v is text, and looks like numbers with a decimal comma: --comma", self.run_on(text, "--time", "t", "--separator", ";").stderr)
+        self.assertEqual(self.made(text, "--time", "t", "--separator", ";", "--comma")[0], ["1,1250", "2,325"])
+        self.refused("'12,5' is no number: where its comma parts the decimals, say --comma", text, "--time", "t", "--separator", ";", "--field", "v:int.2")
+        self.refused("is no number", "t;v\n1;1.234,5\n", "--time", "t", "--separator", ";", "--comma", "--field", "v:int.2")
+
+    def test_json_in_one_array(self):
+        self.assertEqual(self.made('[{"t": 1, "v": 1.5},\n {"t": 2, "w": "x"}]', "--time", "t", name="t.json")[0], ["1,15,", "2,,x"])
+        self.refused("item 2: ", '[{"t": 1}, {"t": 2', "--time", "t", name="t.json")
+        for text, why in (('{"t": 1, "v": NaN}', "NaN is no value of JSON: --missing NaN"), ('{"t": 1, "v": "\\ud800"}', "half of a character"),
+                          ('{"t": 1, "t": 2}', "a key stands twice"), ("[" * 100_000, "nested too deeply")):
+            self.refused(why, text + "\n", "--time", "t", name="t.jsonl")
+
+    def test_access_logs(self):
+        log = ('10.0.0.7 - ann [10/Oct/2000:13:55:36 -0700] "GET /a,b HTTP/1.0" 200 2326 "-" "curl"\n'
+               '10.0.0.8 - - [10/Oct/2000:13:55:37 -0700] "-" 408 -\n')
+        words = ("--form", "clf", "--time", "time", "--field", "status:int", "--field", "path:text", "--field", "bytes:int")
+        self.assertEqual(self.made(log, *words)[0], ['971211336,200,"/a,b",2326', "971211337,408,,"])
+        self.refused("line 3: no line of an access log", log + "x\n", *words)
+
+    def test_a_long_table_is_written_only_where_that_is_said(self):
+        rows = "t,v\n" + "1,2\n" * 1_000_001
+        self.refused("say --long, and run it with aurora-shard", rows, "--time", "t")
+        self.assertEqual(len(self.made(rows, "--time", "t", "--long")[0]), 1_000_001)
+
+    def test_nothing_that_is_read_is_written_over(self):
+        with open(f"{self.room}/own.csv", "w", encoding="utf-8") as table:
+            table.write("t,v\n1,2\n")
+        os.symlink("own.csv", f"{self.room}/link.csv")
+        for name in ("own.csv", "link.csv", "./own.csv"):
+            ran = subprocess.run([f"{TOOLS}/stream", "--time", "t", "own.csv", name], cwd=self.room, capture_output=True, text=True)
+            self.assertEqual((ran.returncode, ran.stdout), (1, ""))
+            self.assertIn("it isn't written over", ran.stderr)
+        with open(f"{self.room}/own.csv", encoding="utf-8") as table:
+            self.assertEqual(table.read(), "t,v\n1,2\n")
+
+    def test_the_slack_of_each_time(self):
+        ran = self.run_on("t,at,v\n5,3,1\n6,1,2\n7,,3\n8,9,3\n9,2,1\n", "--time", "t", "--field", "at=at:time", "--field", "v:int")
+        self.assertIn("a BSort by at with slack = 2 loses nothing of this table, but for 1 whose at is behind their tick", ran.stderr)
+
+    def test_an_interrupt_leaves_nothing_and_says_nothing(self):
+        with open(f"{self.room}/t.csv", "w", encoding="utf-8") as table:
+            table.write("t,v\n" + "1,2\n" * 900_000)
+        for sign in (signal.SIGINT, signal.SIGTERM):
+            run = subprocess.Popen([f"{TOOLS}/stream", "--time", "t", "t.csv", "s.csv"], cwd=self.room, stderr=subprocess.PIPE)
+            while run.poll() is None and len(os.listdir(self.room)) < 2:
+                time.sleep(0.01)
+            run.send_signal(sign)
+            said = run.communicate()[1]
+            self.assertEqual((said, os.listdir(self.room)), (b"", ["t.csv"]))
+            self.assertNotEqual(run.returncode, 0)
+
+    def test_help_has_status_0(self):
+        ran = subprocess.run([f"{TOOLS}/stream", "--help"], capture_output=True, text=True)
+        self.assertEqual((ran.returncode, ran.stderr), (0, ""))
+        self.assertIn("aurora-stream --time COLUMN", ran.stdout)

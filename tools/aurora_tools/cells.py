@@ -1,0 +1,189 @@
+"""Cells of tables as fields of a stream, column by column: which kind a column has, and its cells as a stream file has them.
+
+A column is looked at as one text, a line for each cell, where all of its cells are of the usual form; else cell by cell.
+"""
+import dataclasses
+import re
+
+from .numbers import NUMBER, whole
+from .tables import BadRow, Refused
+
+INTEGERS = re.compile(r"(?>(?>-?+(?>0|[1-9][0-9]*+))?+\n)*+")
+DECIMALS = re.compile(r"(?>(?>-?+(?>0|[1-9][0-9]*+)(?>\.[0-9]++)?+)?+\n)*+")
+COMMAS = re.compile(r"(?>(?>-?+[0-9]++(?>,[0-9]++)?+)?+\n)*+")
+SPECIAL = re.compile('[,"\r]')
+BEGINS_WITH_ZERO = re.compile(r"^(-?)0+(?=[0-9])")
+FEW_WORDS, SAFE_LENGTH = 3, 18
+
+
+class Lines:
+    """The columns of a block as lines of one text each, and which of them are known to be decimal numbers."""
+
+    def __init__(self):
+        self.begin()
+
+    def begin(self):
+        self.known, self.decimal = {}, set()
+
+    def of(self, cells):
+        """Returns the cells as lines of one text, or None where one has a line feed."""
+        if id(cells) not in self.known:
+            lines = "\n".join(cells) + "\n"
+            self.known[id(cells)] = lines if lines.count("\n") == len(cells) else None, cells
+        return self.known[id(cells)][0]
+
+    def are_decimal(self, lines):
+        if id(lines) in self.decimal:
+            return True
+        if found := DECIMALS.fullmatch(lines) is not None:
+            self.decimal.add(id(lines))
+        return found
+
+
+def with_points(text):
+    """Returns numbers with decimal commas as numbers with points; a point of theirs parts thousands, and makes no number."""
+    return text.replace(".", "'").replace(",", ".")
+
+
+def within(text, value):
+    if not -2**63 <= value < 2**63:
+        raise Refused(f"{text} is out of 64 bits")
+    return str(value)
+
+
+@dataclasses.dataclass
+class Field:
+    """A field of a stream: its column, its name, its kind, and the digits behind the point of its numbers."""
+    column: str
+    name: str
+    kind: str
+    digits: int = 0
+
+    def made(self, cells, given):
+        """Returns cells as fields of a stream, or raises BadRow with the place of the first that can't be one."""
+        usual = getattr(self, f"usual_{self.kind}")(cells, given)
+        return self.one_by_one(cells, given) if usual is None else usual
+
+    def one_by_one(self, cells, given):
+        made = []
+        for at, cell in enumerate(cells):
+            try:
+                made.append(self.one(cell, given) if cell else "")
+            except Refused as why:
+                raise BadRow(at, self.column, str(why)) from None
+        return made
+
+    def one(self, cell, given):
+        """Returns a cell that isn't missing as a field."""
+        if self.kind == "int":
+            return within(cell, whole(with_points(cell) if given.comma else cell, self.digits))
+        if self.kind == "time":
+            return str(given.ticks.one(cell))
+        if self.kind == "bool":
+            if cell not in given.booleans:
+                raise Refused(f"{cell!r} is no word for true or false")
+            return given.booleans[cell]
+        if "\n" in cell or len(cell.encode()) > 255:
+            raise Refused("a text over 255 bytes, or with a line feed")
+        return '"' + cell.replace('"', '""') + '"' if SPECIAL.search(cell) else cell
+
+    def usual_int(self, cells, given):
+        lines = given.lines.of(cells)
+        if lines is None:
+            return None
+        lines = with_points(lines) if given.comma else lines
+        zeros = "0" * self.digits
+        if INTEGERS.fullmatch(lines):
+            made = [it and it + zeros for it in cells] if zeros else cells
+        elif zeros and (DECIMALS.fullmatch(lines) if given.comma else given.lines.are_decimal(lines)) and not re.search(rf"\.[0-9]{{{self.digits + 1}}}", lines):
+            if re.fullmatch(rf"(?>(?>-?+[0-9]++\.[0-9]{{{self.digits}}})?+\n)*+", lines):
+                made = lines[:-1].replace(".", "").split("\n")
+            else:
+                made = [before and before + after + zeros[len(after):] for before, _, after in (it.partition(".") for it in lines[:-1].split("\n"))]
+        else:
+            return None
+        if zeros and min(made, default="1") < "1":
+            made = [it if it >= "1" or not it else BEGINS_WITH_ZERO.sub(r"\1", it) for it in made]
+        if "-0" in made:
+            made = ["0" if it == "-0" else it for it in made]
+        return made if max(map(len, made), default=0) <= SAFE_LENGTH else None
+
+    def usual_time(self, cells, given):
+        there = [it for it in cells if it]
+        found = given.ticks.all(there)
+        if found is None:
+            return None
+        found = map(str, found)
+        return list(found) if len(there) == len(cells) else [it and next(found) for it in cells]
+
+    def usual_bool(self, cells, given):
+        try:
+            return list(map(given.booleans_or_missing.__getitem__, cells))
+        except KeyError:
+            return None
+
+    def usual_text(self, cells, given):
+        lines = given.lines.of(cells)
+        if lines is None or SPECIAL.search(lines):
+            return None
+        longest = max(map(len, cells), default=0)
+        return cells if longest <= 63 or longest <= 255 and lines.isascii() else None
+
+
+class Guess:
+    """Which kind fits all cells of a column that were seen, and what few words make a text of a column of numbers."""
+
+    def __init__(self, column, given):
+        self.column, self.given = column, given
+        self.seen, self.boolean, self.number, self.digits = False, True, True, 0
+        self.words, self.numbers, self.commas, self.comma = {}, 0, True, False
+
+    @property
+    def kind(self):
+        return "text" if not self.seen or not (self.boolean or self.number) else "bool" if self.boolean else "int"
+
+    def add(self, cells, first):
+        """Looks at further cells. Returns whether what was seen before would be written otherwise now."""
+        before = (self.kind, self.digits) if self.seen else None
+        if not any(cells):
+            return False
+        self.seen = True
+        if self.boolean:
+            self.boolean = self.given.booleans_or_missing.keys() >= set(cells)
+        if self.number:
+            self.look_at_numbers(cells)
+        if self.number:
+            self.numbers += len(cells) - cells.count("")
+        elif self.words is not None or self.commas:
+            self.look_at_words(cells, first)
+        return before is not None and before != (self.kind, self.digits)
+
+    def look_at_numbers(self, cells):
+        lines = self.given.lines.of(cells)
+        if lines and self.given.comma:
+            lines = with_points(lines)
+        self.number = lines is not None and (DECIMALS.fullmatch(lines) is not None if self.given.comma else self.given.lines.are_decimal(lines))
+        if not self.number:
+            self.digits = 0
+            return
+        if "." in lines:
+            longer = re.findall(rf"\.([0-9]{{{self.digits + 1},}})", lines)
+            self.digits = max(map(len, longer), default=self.digits)
+        if max(map(len, cells)) + self.digits > SAFE_LENGTH:
+            self.number = max(map(len, cells)) <= 1000 and self.digits <= 18 and all(
+                abs(whole(it, self.digits)) < 2**63 for it in lines[:-1].split("\n") if len(it) + self.digits > SAFE_LENGTH)
+            self.digits = self.digits if self.number else 0
+
+    def look_at_words(self, cells, first):
+        if self.commas:
+            lines = self.given.lines.of(cells)
+            self.commas = lines is not None and COMMAS.fullmatch(lines) is not None
+            self.comma = self.commas and (self.comma or "," in lines)
+        if self.words is None:
+            return
+        found = {it for it in set(cells) if it and it not in self.words and not NUMBER.fullmatch(it)}
+        if len(self.words) + len(found) > FEW_WORDS:
+            self.words = None
+            return
+        self.words.update({it: first + cells.index(it) for it in sorted(found, key=cells.index)})
+        self.numbers += len(cells) - cells.count("") - sum(map(cells.count, self.words))

@@ -1,0 +1,84 @@
+#!/usr/bin/env python3
+"""The tools have one front: help of one form with status 0, a line for words that are none, no word where a reader goes away."""
+import ast
+import os
+import re
+import subprocess
+import tempfile
+import unittest
+
+TOP = os.path.dirname(os.path.dirname(os.path.dirname(os.path.abspath(__file__))))
+NAMES = ("draw", "explain", "output", "plan", "report", "shard", "stream")
+DESK = f"{TOP}/examples/desk"
+
+
+def ran(name, *words, **more):
+    return subprocess.run([f"{TOP}/tools/{name}", *words], capture_output=True, text=True, **more)
+
+
+class Front(unittest.TestCase):
+    def test_help_is_of_one_form(self):
+        for name in NAMES:
+            for word in ("--help", "-h"):
+                with self.subTest(name=name, word=word):
+                    said = ran(name, word)
+                    self.assertEqual((said.returncode, said.stderr), (0, ""))
+                    self.assertRegex(said.stdout, rf"\A[A-Z][^\n]*[.:]?[^\n]*\n\n    aurora-{name} ")
+                    self.assertNotIn("tools/", said.stdout)
+
+    def test_words_that_are_none_are_one_line_and_status_2(self):
+        for name in NAMES:
+            for words in ((), ("--no-such-word", "a", "b", "c")) if name != "explain" else ((),):
+                with self.subTest(name=name, words=words):
+                    said = ran(name, *words)
+                    self.assertEqual((said.returncode, said.stdout), (2, ""))
+                    self.assertRegex(said.stderr, rf"\A{name}: [^\n]*; aurora-{name} --help tells more\n\Z")
+
+    def test_a_reader_that_goes_away_makes_no_noise(self):
+        for words in (("output", "--csv", "-", "--output", "lost", f"{DESK}/desk.toml", f"{DESK}/expected.txt"), ("plan", "--help"), ("stream", "--help"), ("explain", "--help")):
+            with self.subTest(words=words):
+                tool = subprocess.Popen([f"{TOP}/tools/{words[0]}", *words[1:]], stdout=subprocess.PIPE, stderr=subprocess.PIPE)
+                tool.stdout.close()
+                self.assertEqual((tool.stderr.read(), tool.wait()), (b"", 141))
+                tool.stderr.close()
+
+    def test_an_output_that_is_full_or_closed_is_told_in_a_line(self):
+        words = f"{TOP}/tools/output --csv - --output lost {DESK}/desk.toml {DESK}/expected.txt"
+        for end, why in ((">/dev/full", "No space left on device"), (">&-", "Bad file descriptor")):
+            said = subprocess.run(["sh", "-c", f"{words} {end}"], capture_output=True, text=True)
+            self.assertEqual((said.returncode, said.stderr), (1, f"output: standard output: {why}\n"))
+
+    def test_files_that_cannot_be_read_are_told_without_numbers_of_the_system(self):
+        with tempfile.TemporaryDirectory() as room:
+            for name, words in (("output", ("--csv", "-", f"{DESK}/desk.toml", room)), ("report", (f"{DESK}/desk.toml", "nowhere", "x.html")),
+                                ("stream", ("--time", "t", "--form", "csv", room, "x.csv")), ("plan", ("--load", "nowhere.toml")), ("explain", ("--hints", "nowhere.toml"))):
+                with self.subTest(name=name):
+                    said = ran(name, *words, cwd=room)
+                    self.assertEqual(said.returncode, 1)
+                    self.assertRegex(said.stderr, rf"\A{name}: [^\[\n]*: (Is a directory|No such file or directory)\n\Z")
+
+    def test_every_option_is_described(self):
+        for name in NAMES:
+            with self.subTest(name=name), open(f"{TOP}/tools/{name}", encoding="utf-8") as file:
+                text = file.read()
+                taken = set(re.findall(r'add_argument\("(--[a-z][a-z-]*)"', text)) | {f"--{it}" for names in re.findall(r'for name(?:, default)? in (\(.*\)):\n\s+\S*\.add_argument\(f"--', text)
+                                                                       for it in (it if isinstance(it, str) else it[0] for it in ast.literal_eval(names))}
+                described = set(re.findall(r"--[a-z][a-z-]*", ast.get_docstring(ast.parse(text))))
+                self.assertLessEqual(taken, described)
+
+    def test_the_completion_has_their_words(self):
+        with open(f"{TOP}/tools/completion.bash", encoding="utf-8") as text:
+            self.assertIn(f"<<'WORDS'\n{ran('pages', '--words').stdout}WORDS\n", text.read())
+
+    def test_each_has_a_manual_page(self):
+        with tempfile.TemporaryDirectory() as room:
+            self.assertEqual(ran("pages", room).returncode, 0)
+            self.assertEqual(sorted(os.listdir(room)), [f"aurora-{name}.1" for name in NAMES] + ["aurora_keys.1"])
+            with open(f"{room}/aurora-stream.1", encoding="utf-8") as page:
+                text = page.read()
+            for words in (".SH SYNOPSIS", ".B \\-\\-time COLUMN", ".SH SEE ALSO"):
+                self.assertIn(words, text)
+
+
+if __name__ == "__main__":
+    unittest.main()
