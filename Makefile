@@ -23,7 +23,7 @@ KEYS ?= $(if $(changed),$(quick_keys),$(proved_keys))
 
 version := $(shell git describe --tags --always --dirty 2>/dev/null | sed -n 's/^v\{0,1\}\([0-9].*\..*\)/\1/p')
 ifeq ($(version),)
-version := 0.1+$(shell git rev-list --count HEAD 2>/dev/null || echo 0)
+version := $(shell cat VERSION)+$(shell git rev-list --count HEAD 2>/dev/null || echo 0)
 endif
 architecture := $(shell dpkg --print-architecture 2>/dev/null || echo amd64)
 
@@ -60,17 +60,18 @@ install: $(PROGRAM)
 	install -d "$(binaries)" "$(library)/aurora_tools" "$(manual)" "$(completions)" "$(documents)/docs"
 	install -m 755 $(PROGRAM) "$(binaries)/aurora"
 	if [ -f "$(KEYS)" ]; then install -m 755 "$(KEYS)" "$(binaries)/aurora_keys"; fi
-	install -m 644 docs/aurora.1 "$(manual)"
+	sed '1s/"" ""/"" "aurora $(version)"/' docs/aurora.1 >"$(manual)/aurora.1"
 	tools/pages "$(manual)"
 	if [ ! -f "$(KEYS)" ]; then rm -f "$(manual)/aurora_keys.1"; fi
 	cd "$(manual)" && gzip -9nf aurora*.1
 	install -m 644 tools/completion.bash "$(completions)/aurora"
 	for tool in $(notdir $(tools)); do ln -sf aurora "$(completions)/aurora-$$tool"; done
-	install -m 644 README.md "$(documents)"
+	install -m 644 README.md CONTRIBUTING.md LICENSE VERSION "$(documents)"
 	install -m 644 $(pages) "$(documents)/docs"
 	cp -r examples "$(documents)/"
 	install -m 755 $(tools) "$(library)"
 	install -m 644 $(modules) "$(library)/aurora_tools"
+	echo "$(version)" >"$(library)/VERSION"
 	for tool in $(notdir $(tools)); do ln -sf ../lib/aurora/$$tool "$(binaries)/aurora-$$tool"; done
 	@echo "installed below $(root): $(if $(filter $(proved_program),$(PROGRAM)),the proved program,a program that is not proved)"
 

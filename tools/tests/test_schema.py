@@ -2,6 +2,7 @@
 import glob
 import json
 import os
+import pathlib
 import re
 import subprocess
 import tempfile
@@ -9,6 +10,7 @@ import tomllib
 import unittest
 
 import test_explain
+from aurora_tools import network
 from aurora_tools.json_schema import Schema, Unknown
 
 TOP = os.path.dirname(os.path.dirname(test_explain.HERE))
@@ -83,6 +85,11 @@ class Networks(unittest.TestCase):
         self.assertTrue(self.fits((self.plant + box).replace("version = 2", "version = 1").replace("phase = 5\n", "")))
         self.assertFalse(self.fits(self.plant + box.replace('["readings", "others"]', '["readings"]')))
         self.assertFalse(self.fits(self.plant + box.replace("size = 3\n", "")))
+
+    def test_the_tools_know_the_functions_of_the_schema(self):
+        text = pathlib.Path(TOP, "docs/network.schema.json").read_text(encoding="utf-8")
+        listed = {name for names in re.findall(r'"enum": \[([^\]]*"sum"[^\]]*)\]', text) for name in re.findall(r'"(\w+)"', names)}
+        self.assertEqual(listed | {"count"}, set(network.FUNCTIONS))
 
     def test_a_word_that_is_not_known_is_no_schema(self):
         with self.assertRaises(Unknown):

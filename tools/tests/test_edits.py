@@ -1,0 +1,88 @@
+"""Which edits apply, which crates are tried, and what is laid into the room where they are."""
+import importlib.machinery
+import importlib.util
+import os
+import pathlib
+import sys
+import tempfile
+import unittest
+import unittest.mock
+
+sys.dont_write_bytecode = True
+PATH = os.path.join(os.path.dirname(os.path.dirname(os.path.abspath(__file__))), "edits")
+LOADER = importlib.machinery.SourceFileLoader("edits_tool", PATH)
+edits = importlib.util.module_from_spec(importlib.util.spec_from_loader("edits_tool", LOADER))
+LOADER.exec_module(edits)
+
+FILES = {
+    "HANDLES": "Handles allowed: none.\n",
+    "crates.txt": "## all: three\n# the low one\nlow:\nhigh: low # and no other\nother:\n",
+    "crates/low/src/lib.rt": "fn f() -> u32 {\n    1 + 2\n}\n",
+    "crates/high/src/lib.rt": "fn g() -> u32 {\n    2\n}\n",
+    "crates/other/src/lib.rt": "",
+    "crates/low/edits/a_sum.edit": "file: src/lib.rt\nold: 1 + 2\nnew: 1 + 3\n",
+}
+
+
+class Tried(unittest.TestCase):
+    def setUp(self):
+        room = tempfile.TemporaryDirectory()
+        self.addCleanup(room.cleanup)
+        self.top = pathlib.Path(room.name)
+        for name, text in FILES.items():
+            self.write(name, text)
+        patched = unittest.mock.patch.object(edits, "TOP", self.top)
+        patched.start()
+        self.addCleanup(patched.stop)
+
+    def write(self, name, text):
+        path = self.top / name
+        path.parent.mkdir(parents=True, exist_ok=True)
+        path.write_text(text, encoding="utf-8")
+        return path
+
+    def test_an_edit_that_applies(self):
+        self.assertIsNone(edits.misfit(self.top / "crates/low/edits/a_sum.edit"))
+
+    def test_what_applies_no_longer(self):
+        for text, why in (
+            ("file: src/lib.rt\nold: 1 + 4\nnew: 1\n", "0 times"), ("file: src/none.rt\nold: 1\nnew: 2\n", "no file"), ("file: src/lib.rt\nold: 1 + 2\nnew: 1 + 2\n", "changes nothing"),
+            ("file: out/lib.rt\nold: 1\nnew: 2\n", "below src/"), ("file: src/lib.rt\nold: 1\n", "half"), ("old: 1\nnew: 2\n", "before any"),
+        ):
+            with self.subTest(why):
+                self.assertIn(why, edits.misfit(self.write("crates/low/edits/another.edit", text)))
+
+    def test_the_second_pair_applies_to_what_the_first_made(self):
+        self.assertIsNone(edits.misfit(self.write("crates/low/edits/two.edit", "file: src/lib.rt\nold: 1 + 2\nnew: 7\nold: 7\nnew: 8\n")))
+
+    def test_an_edit_of_one_name_in_both_folders(self):
+        self.write("crates/low/must-fail/a_sum.edit", FILES["crates/low/edits/a_sum.edit"])
+        with unittest.mock.patch("builtins.print") as said:
+            self.assertEqual(edits.fit(), 1)
+        self.assertIn("another edit of the crate has its name", said.call_args_list[0].args[0])
+
+    def test_the_room_has_what_is_below_and_no_other_crate(self):
+        self.write("crates/high/edits/less.edit", "file: src/lib.rt\nold: 2\nnew: 1\n")
+        self.write("crates/low/must-fail/of_the_gate.edit", FILES["crates/low/edits/a_sum.edit"])
+        with tempfile.TemporaryDirectory() as place:
+            room = pathlib.Path(place)
+            self.assertEqual(edits.lay(room, ["high"], edits.dependencies(self.top)), {"high", "low"})
+            self.assertEqual((room / "crates.txt").read_text(), "low:\nhigh: low # and no other\n")
+            self.assertEqual([it.name for it in (room / "crates/high/must-fail").iterdir()], ["less.edit"])
+            self.assertFalse((room / "crates/low/must-fail").exists())
+
+    def test_a_library_is_of_its_text(self):
+        library = self.write("crates/low/out/rlib/low.rlib", "")
+        folder = self.top / "crates/low"
+        os.utime(folder / "src/lib.rt", (1000, 1000))
+        os.utime(library, (2000, 2000))
+        self.assertTrue(edits.is_of_its_text(folder, "sum", [folder]))
+        os.utime(folder / "src/lib.rt", (3000, 3000))
+        self.assertFalse(edits.is_of_its_text(folder, "sum", [folder]))
+        (library.parent / "stamp").write_text("sum")
+        self.assertTrue(edits.is_of_its_text(folder, "sum", [folder]))
+        self.assertFalse(edits.is_of_its_text(folder, "another", [folder]))
+
+
+if __name__ == "__main__":
+    unittest.main()
