@@ -10,34 +10,29 @@
 # program to install.
 PREFIX ?= /usr/local
 DESTDIR ?=
+# Both are taken letter by letter: what stands in them is no word of make's or of the shell's.
+override PREFIX := $(value PREFIX)
+override DESTDIR := $(value DESTDIR)
 
 proved_program = crates/aurora/out/aurora
 quick_program = out/aurora
 proved_keys = crates/aurora_keys/out/aurora_keys
 quick_keys = out/aurora_keys
-# The proved program, as long as no source has changed since.
-changed := $(shell find crates -name out -prune -o -name '*.rt' -newer $(proved_program) -print 2>&1 | head -n 1)
-PROGRAM ?= $(if $(changed),$(quick_program),$(proved_program))
+# The proved program where the digests of the gate's record say that it is there.
+ifeq ($(shell tools/proved $(proved_program) $(proved_keys) 2>/dev/null),proved)
+PROGRAM ?= $(proved_program)
+KEYS ?= $(proved_keys)
+endif
+PROGRAM ?= $(quick_program)
 # The program that tells which outputs parts make, where it is there.
-KEYS ?= $(if $(changed),$(quick_keys),$(proved_keys))
+KEYS ?= $(quick_keys)
+export PREFIX DESTDIR PROGRAM KEYS
 
 version := $(shell git describe --tags --always --dirty 2>/dev/null | sed -n 's/^v\{0,1\}\([0-9].*\..*\)/\1/p')
 ifeq ($(version),)
 version := $(shell cat VERSION)+$(shell git rev-list --count HEAD 2>/dev/null || echo 0)
 endif
 architecture := $(shell dpkg --print-architecture 2>/dev/null || echo amd64)
-
-# The tools that a user runs, those of them that are there, and what they share.
-tools = $(wildcard $(addprefix tools/,draw explain output plan report shard stream))
-modules = $(wildcard tools/aurora_tools/*.py)
-pages = $(wildcard docs/*)
-
-root = $(DESTDIR)$(PREFIX)
-binaries = $(root)/bin
-library = $(root)/lib/aurora
-manual = $(root)/share/man/man1
-completions = $(root)/share/bash-completion/completions
-documents = $(root)/share/doc/aurora
 
 .PHONY: all proved install uninstall deb clean
 
@@ -54,35 +49,22 @@ $(quick_keys): $(shell find crates -name out -prune -o -name '*.rt' -print) crat
 
 proved:
 	.ci/run
-	@echo "$(proved_program) is proved"
+	tools/proved $(proved_program) $(proved_keys)
 
-install: $(PROGRAM)
-	install -d "$(binaries)" "$(library)/aurora_tools" "$(manual)" "$(completions)" "$(documents)/docs"
-	install -m 755 $(PROGRAM) "$(binaries)/aurora"
-	if [ -f "$(KEYS)" ]; then install -m 755 "$(KEYS)" "$(binaries)/aurora_keys"; fi
-	sed '1s/"" ""/"" "aurora $(version)"/' docs/aurora.1 >"$(manual)/aurora.1"
-	tools/pages "$(manual)"
-	if [ ! -f "$(KEYS)" ]; then rm -f "$(manual)/aurora_keys.1"; fi
-	cd "$(manual)" && gzip -9nf aurora*.1
-	install -m 644 tools/completion.bash "$(completions)/aurora"
-	for tool in $(notdir $(tools)); do ln -sf aurora "$(completions)/aurora-$$tool"; done
-	install -m 644 README.md CONTRIBUTING.md LICENSE VERSION "$(documents)"
-	install -m 644 $(pages) "$(documents)/docs"
-	cp -r examples "$(documents)/"
-	install -m 755 $(tools) "$(library)"
-	install -m 644 $(modules) "$(library)/aurora_tools"
-	echo "$(version)" >"$(library)/VERSION"
-	for tool in $(notdir $(tools)); do ln -sf ../lib/aurora/$$tool "$(binaries)/aurora-$$tool"; done
-	@echo "installed below $(root): $(if $(filter $(proved_program),$(PROGRAM)),the proved program,a program that is not proved)"
+# A program that is named and isn't one to be built is there, or isn't.
+ifeq ($(PROGRAM),$(quick_program))
+install deb: $(quick_program)
+endif
+
+install:
+	tools/install "$$PROGRAM" "$(version)" "$$KEYS"
 
 uninstall:
-	for tool in $(notdir $(tools)); do rm -f "$(binaries)/aurora-$$tool" "$(manual)/aurora-$$tool.1.gz" "$(completions)/aurora-$$tool"; done
-	rm -f "$(binaries)/aurora" "$(binaries)/aurora_keys" "$(manual)/aurora.1.gz" "$(manual)/aurora_keys.1.gz" "$(completions)/aurora"
-	rm -rf "$(library)" "$(documents)"
+	tools/install --remove
 
-deb: $(PROGRAM)
+deb:
 	mkdir -p out
-	tools/package "$(PROGRAM)" "$(version)" "$(architecture)" "out/aurora_$(version)_$(architecture).deb"
+	tools/package "$$PROGRAM" "$(version)" "$(architecture)" "out/aurora_$(version)_$(architecture).deb" "$$KEYS"
 
 clean:
 	rm -rf out
