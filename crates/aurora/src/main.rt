@@ -10,7 +10,7 @@
 ghost use Rattle.std.specs.Prelude.{◌≡◌, ◌<◌};
 
 use sq_outside::{Steps, write_all};
-use sq_system::{OpenFolder, Out, SpillFile, words_after_name};
+use sq_system::{NamelessFile, OpenFolder, Out, SpillFile, words_after_name};
 use sq_top::{Status, run_words};
 use std::marker::Brand;
 use std::process::ExitCode;
@@ -28,7 +28,7 @@ fn run<L: Ledger>(rt: &HostRuntime, blank: Blank) -> Status
         return Status::Memory;
     };
     let mut folder = OpenFolder::new(rt);
-    let mut disk = SpillFile::new(rt);
+    let mut disk = SpillFile::new(NamelessFile::new(rt));
     let mut out = Out::new(rt.stdout());
     let mut steps = Steps::<L>::open(blank);
     run_words(

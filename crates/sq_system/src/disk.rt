@@ -1,136 +1,105 @@
 // The disk of the system.
-ghost use Rattle.std.specs.Prelude.{◌≡◌, ◌≤◌};
+ghost use Rattle.std.specs.Prelude.{◌≡◌, ◌*◌, ◌≤◌, IfOk, OnOk, List, Option, length, ℕ};
 ghost use Rattle.sq_outside.specs.Disks.{nothing_put};
 ghost use Rattle.sq_outside.specs.Faults.{Rose};
+ghost use Rattle.sq_system.specs.ByteFiles.{HoldsAt, KeepsTheRest};
 
 use sq_outside::{Failed, PAGE, PageDisk, PageLog};
-use std::alloc::AllocError;
-use std::fs::{File, OpenOptions};
+use std::io;
 use std::io::ErrorKind;
-use std::os::unix::fs::{FileExt, OpenOptionsExt};
-use std::{fs, io};
+use std::marker::Model;
 
-/// How many names are tried for a spill file.
-const NAMES: u32 = 1000;
+/// A file of bytes.
+pub trait ByteFile {
+    /// All that it holds, where it is told.
+    ghost held: { Self → Option (List ℕ) };
 
-/// Pages in a file: page n stands at byte n * 8192. The file is made at the first put, in the working folder and for this user
-/// alone, under the first name that is free of `aurora.spill`, `aurora.spill.1` and so on. It loses its name at once, so that
-/// nothing of it is left at the end, however a run ends. What stands at a name that isn't free isn't touched. It promises
-/// nothing of what a page gives back, and tells what was put and what came.
+    /// Writes all of the bytes at a place. After an `Err` nothing is known of what stands there.
+    fn write_all_at(&mut self, bytes: &[u8], at: u64) -> io::Result<()>
+        ensures ok { OnOk result (HoldsAt (held self.new) at bytes.now) }
+        ensures keeps { KeepsTheRest (held self.old) (held self.new) at (length bytes.now) };
+
+    /// Reads as many bytes at a place as there is room for.
+    fn read_exact_at(&self, into: &mut [u8], at: u64) -> io::Result<()>
+        ensures { OnOk result (HoldsAt (held self.now) at into.new) };
+}
+
+/// Pages in a file: page n stands at byte n * 8192. It tells what was put and what came, and promises that a page gives
+/// back what was put where the file tells what it holds.
 #[derive(Drop)]
-pub struct SpillFile<'a> {
-    rt: &'a HostRuntime,
-    file: Option<File>,
-    pub log: PageLog,
+pub struct SpillFile<F: ByteFile> {
+    file: F,
+    log: PageLog,
     pub faults: u64,
 }
 
-impl<'a> SpillFile<'a> {
+impl<F: ByteFile> Model for SpillFile<F> {
+    ghost use Rattle.sq_system.specs.Spills.{Spilled, AreKept, spilled, spilled_code};
+
+    ghost Value = { Spilled };
+
+    ghost coded = { spilled_code };
+
+    ghost view = { λ a. spilled a.log.all (F.held a.file) a.faults };
+
+    ghost invariant = { λ a. AreKept a.log.all.pages (F.held a.file) };
+}
+
+impl<F: ByteFile> SpillFile<F> {
+    ghost use Rattle.sq_system.specs.Spills.{spilled};
+
     /// A disk without faults, which holds no page.
-    pub fn new(rt: &'a HostRuntime) -> SpillFile<'a>
-        ensures { result.log.all ≡ nothing_put }
+    pub fn new(file: F) -> SpillFile<F>
+        ensures { result ≡ spilled nothing_put (F.held file) 0 }
     {
         SpillFile {
-            rt,
-            file: None,
+            file,
             log: PageLog::new(),
             faults: 0,
         }
     }
-
-    // Counts a call that failed.
-    fn failed(&mut self) -> Failed
-        ensures rose { Rose self.old.faults self.new.faults }
-        ensures later { self.old.faults ≤ self.new.faults }
-        ensures log { self.new.log.all ≡ self.old.log.all }
-    {
-        self.faults = self.faults.saturating_add(1);
-        Failed
-    }
 }
 
-// The names that are tried, by number.
-fn spill_name(rt: &HostRuntime, number: u32) -> Result<String, AllocError> {
-    match number {
-        0 => format!(in rt.alloc(); "aurora.spill"),
-        _ => format!(in rt.alloc(); "aurora.spill.{number}"),
-    }
-}
-
-// A new file, which loses this name at once.
-fn unnamed_file(rt: &HostRuntime, name: &str) -> io::Result<File> {
-    let file = OpenOptions::new()
-        .read(true)
-        .write(true)
-        .create_new(true)
-        .mode(0o600)
-        .open(rt, name)?;
-    fs::remove_file(rt, name)?;
-    Ok(file)
-}
-
-// A new file without a name, made under the first name that is free.
-fn nameless_file(rt: &HostRuntime) -> io::Result<File> {
-    for number in 0..NAMES {
-        let Ok(name) = spill_name(rt, number) else {
-            return Err(ErrorKind::OutOfMemory.into());
-        };
-        match unnamed_file(rt, name.as_str()) {
-            Err(e) if e.kind() == ErrorKind::AlreadyExists => {}
-            end => return end,
-        }
-    }
-    Err(ErrorKind::AlreadyExists.into())
-}
-
-// Where a page stands, if the file may be that long.
-fn place_of(page: u64) -> io::Result<u64> {
+// Where a page stands, if a file may be that long.
+fn place_of(page: u64) -> io::Result<u64>
+    ensures { IfOk result (λ at. at ≡ page * PAGE) }
+{
     match page.checked_mul(PAGE as u64) {
         Some(at) if at < 1 << 63 => Ok(at),
         _ => Err(ErrorKind::InvalidInput.into()),
     }
 }
 
-fn write_page(
-    rt: &HostRuntime,
-    file: &mut Option<File>,
-    page: u64,
-    bytes: &[u8],
-) -> io::Result<()> {
+fn write_page<F: ByteFile>(file: &mut F, page: u64, bytes: &[u8]) -> io::Result<()>
+    ensures ok { OnOk result (HoldsAt (F.held file.new) (page * PAGE) bytes.now) }
+    ensures keeps { KeepsTheRest (F.held file.old) (F.held file.new) (page * PAGE) (length bytes.now) }
+{
     let at = place_of(page)?;
-    if file.is_none() {
-        *file = Some(nameless_file(rt)?);
-    }
-    match file {
-        Some(file) => file.write_all_at(bytes, at),
-        None => Err(ErrorKind::NotFound.into()),
-    }
+    file.write_all_at(bytes, at)
 }
 
-fn read_page(file: &Option<File>, page: u64, into: &mut [u8]) -> io::Result<()> {
+fn read_page<F: ByteFile>(file: &F, page: u64, into: &mut [u8]) -> io::Result<()>
+    ensures { OnOk result (HoldsAt (F.held file.now) (page * PAGE) into.new) }
+{
     let at = place_of(page)?;
-    match file {
-        Some(file) => file.read_exact_at(into, at),
-        None => Err(ErrorKind::NotFound.into()),
-    }
+    file.read_exact_at(into, at)
 }
 
-impl<'a> PageDisk for SpillFile<'a> {
-    ghost use Rattle.std.specs.Prelude.{false};
+impl<F: ByteFile + Drop> PageDisk for SpillFile<F> {
+    ghost log = { λ s. s.log };
 
-    ghost log = { λ s. record s.log.all { honest = false } };
-
-    ghost faults = { λ s. s.faults };
+    ghost faults = { λ s. s.failed };
 
     fn put(&mut self, page: u64, bytes: &[u8]) -> Result<(), Failed> {
-        match write_page(self.rt, &mut self.file, page, bytes) {
+        match write_page(&mut self.file, page, bytes) {
             Ok(()) => {
                 self.log.put(page, bytes);
                 Ok(())
             }
             Err(_) => {
                 self.log.gone(page);
-                Err(self.failed())
+                self.faults = self.faults.saturating_add(1);
+                Err(Failed)
             }
         }
     }
@@ -141,7 +110,10 @@ impl<'a> PageDisk for SpillFile<'a> {
                 self.log.came(page, into);
                 Ok(())
             }
-            Err(_) => Err(self.failed()),
+            Err(_) => {
+                self.faults = self.faults.saturating_add(1);
+                Err(Failed)
+            }
         }
     }
 

@@ -1,28 +1,44 @@
 // The folder of the system.
+ghost use Rattle.std.specs.Prelude.{◌≡◌, ◌++◌, Option, IsSome, IsSomeAnd, IfOk, IfSome, OnOk, take};
+ghost use Rattle.sq_outside.specs.Folders.{Files, file};
+
 use sq_outside::{Folder, FolderErr, Pairs};
 use std::alloc::Global;
-use std::fs::{File, Files};
 use std::io;
 use std::io::{ErrorKind, Read};
 
-/// The files that the system opens by their names, from the working folder on.
+/// What opens files by their names.
+pub trait Opens {
+    /// The bytes of each file, where they are told.
+    ghost held: { Self → Option Files };
+
+    /// What gives a file's bytes, from the first on.
+    type Source: Read + Drop;
+
+    /// Opens the file of this name.
+    fn open(&self, name: &str) -> io::Result<Self::Source>
+        ensures { IfOk result (λ source. IfSome (held self.now) (λ told. IsSome (file told name.now)
+            × (Self.Source.remaining source ≡ file told name.now))) };
+}
+
+/// The files that an opener opens, each read from its first byte on. It tells them where the opener does.
 #[derive(Drop)]
-pub struct OpenFolder<'a, R> {
-    rt: &'a R,
+pub struct OpenFolder<'a, O> {
+    opener: &'a O,
     pub read: Pairs,
     pub taken: u64,
     pub faults: u64,
 }
 
-impl<'a, R: Files> OpenFolder<'a, R> {
-    ghost use Rattle.std.specs.Prelude.{◌≡◌, []};
+impl<'a, O: Opens> OpenFolder<'a, O> {
+    ghost use Rattle.std.specs.Prelude.{[]};
 
     /// A folder without faults, of which nothing was read.
-    pub fn new(rt: &'a R) -> OpenFolder<'a, R>
+    pub fn new(opener: &'a O) -> OpenFolder<'a, O>
         ensures { result.read.all ≡ [] }
     {
         OpenFolder {
-            rt,
+            opener,
             read: Pairs::new(),
             taken: 0,
             faults: 0,
@@ -30,17 +46,18 @@ impl<'a, R: Files> OpenFolder<'a, R> {
     }
 
     // Appends a file's first bytes, `most` of them where it has as many.
-    fn append_first(&self, name: &str, most: u64, bytes: &mut Vec<u8>) -> io::Result<()> {
-        let file = File::open(self.rt, name)?;
-        file.take(most).read_to_end(bytes)?;
+    fn append_first(&self, name: &str, most: u64, bytes: &mut Vec<u8>) -> io::Result<()>
+        ensures { OnOk result (IfSome (O.held self.now.opener.now) (λ told. IsSomeAnd (file told name.now)
+            (λ whole. bytes.new.items ≡ bytes.old.items ++ take most whole))) }
+    {
+        let source = self.opener.open(name)?;
+        source.take(most).read_to_end(bytes)?;
         Ok(())
     }
 }
 
-impl<'a, R: Files> Folder for OpenFolder<'a, R> {
-    ghost use Rattle.std.specs.Prelude.{None};
-
-    ghost files = { λ _. None };
+impl<'a, O: Opens> Folder for OpenFolder<'a, O> {
+    ghost files = { λ s. O.held s.opener.now };
 
     ghost read = { λ s. s.read.all };
 

@@ -1,0 +1,2 @@
+pub mod ByteFiles
+pub mod Spills
