@@ -23,3 +23,5 @@ mod queue;
 mod sched;
 #[cfg(test)]
 mod system;
+#[cfg(test)]
+mod told;

@@ -1,5 +1,5 @@
 use sq_outside::{Failed, Folder, FolderErr, PAGE, PageDisk, Sink};
-use sq_system::{OpenFolder, Out, SpillFile};
+use sq_system::{NamelessFile, OpenFolder, Out, SpillFile};
 use std::alloc::Global;
 use std::io::Write;
 use std::test::Fail;
@@ -7,7 +7,7 @@ use std::{fs, io};
 
 #[test]
 fn a_page_comes_back_from_a_file_without_a_name(rt: HostRuntime) {
-    let mut disk = SpillFile::new(&rt);
+    let mut disk = SpillFile::new(NamelessFile::new(&rt));
     let mut page = [0; PAGE];
     let early = disk.get(0, &mut page);
     let puts = [disk.put(2, &[7; PAGE]), disk.put(0, &[5; PAGE])];
@@ -28,7 +28,7 @@ fn is_kept(rt: &HostRuntime, name: &str) -> io::Result<bool> {
 #[test]
 fn what_stands_at_a_name_is_not_touched_and_the_next_is_taken(rt: HostRuntime) -> Result<(), Fail> {
     fs::write(&rt, "aurora.spill", "mine")?;
-    let mut disk = SpillFile::new(&rt);
+    let mut disk = SpillFile::new(NamelessFile::new(&rt));
     let mut page = [0; PAGE];
     let put = disk.put(0, &[5; PAGE]);
     let kept = is_kept(&rt, "aurora.spill");
