@@ -10,7 +10,9 @@
 ghost use Rattle.std.specs.Prelude.{◌≡◌, ◌<◌};
 
 use sq_outside::{Steps, write_all};
-use sq_system::{NamelessFile, OpenFolder, Out, SpillFile, words_after_name};
+use sq_system::{
+    NamelessFile, OpenFolder, Out, SpillFile, take_closed_streams, words_after_name,
+};
 use sq_top::{Status, run_words};
 use std::marker::Brand;
 use std::process::ExitCode;
@@ -43,6 +45,7 @@ fn run<L: Ledger>(rt: &HostRuntime, blank: Blank) -> Status
 }
 
 fn main(rt: HostRuntime) -> ExitCode {
+    let _kept = take_closed_streams(&rt);
     let status = run::<Brand>(&rt, Blank::new(1));
     ExitCode::from(status.code())
 }

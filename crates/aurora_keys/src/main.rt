@@ -7,7 +7,7 @@
 
 use sq_keys::{Status, run_keys};
 use sq_outside::write_all;
-use sq_system::{OpenFolder, Out, words_after_name};
+use sq_system::{OpenFolder, Out, take_closed_streams, words_after_name};
 use std::process::ExitCode;
 
 /// Does what the words ask for, and says how it ended.
@@ -23,6 +23,7 @@ fn run(rt: &HostRuntime) -> Status {
 }
 
 fn main(rt: HostRuntime) -> ExitCode {
+    let _kept = take_closed_streams(&rt);
     let status = run(&rt);
     ExitCode::from(status.code())
 }

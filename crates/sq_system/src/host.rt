@@ -19,6 +19,14 @@ impl Opens for HostRuntime {
     }
 }
 
+/// Takes the descriptors of those standard streams that whoever called the program has closed, so that no file that is opened
+/// later gets one of them, and with it the lines of a run. Their place is taken by the root folder, opened for reading: each
+/// write to it fails, and so does each read. To be called before any file is opened, and to be kept for the whole run.
+pub fn take_closed_streams(rt: &HostRuntime) -> [io::Result<File>; 3] {
+    // A new file gets the lowest descriptor that is free; a call that finds all three taken gets one that is of no use.
+    [File::open(rt, "/"), File::open(rt, "/"), File::open(rt, "/")]
+}
+
 /// A file that is made at the first write, in the working folder and for this user alone, under the first name that is free
 /// of `aurora.spill`, `aurora.spill.1` and so on. It loses its name at once, so that nothing of it is left at the end,
 /// however a run ends. What stands at a name that isn't free isn't touched.

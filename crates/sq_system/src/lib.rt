@@ -18,6 +18,6 @@ mod words;
 
 pub use disk::{ByteFile, SpillFile};
 pub use folder::{OpenFolder, Opens};
-pub use host::NamelessFile;
+pub use host::{NamelessFile, take_closed_streams};
 pub use sink::Out;
 pub use words::words_after_name;
