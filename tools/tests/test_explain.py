@@ -9,6 +9,7 @@ import tempfile
 import time
 import unittest
 
+import forked
 from aurora_tools.messages import explained
 
 PROGRAM = os.environ["AURORA"]
@@ -302,7 +303,7 @@ class Mistakes(unittest.TestCase):
                 if text is None:
                     os.remove("query.toml")
                 asked = ["tap", "plant.toml", stream, tick, "0", "query.toml"]
-                run = subprocess.run([f"{os.path.dirname(HERE)}/explain", "--program", PROGRAM, *asked], capture_output=True, encoding="utf-8")
+                run = forked.run([f"{os.path.dirname(HERE)}/explain", "--program", PROGRAM, *asked])
                 self.assertEqual(run.stderr[:len(told)], told)
                 self.assertEqual(bool(run.stderr), bool(told))
                 self.assertIn(words, run.stderr)
@@ -325,10 +326,10 @@ class Mistakes(unittest.TestCase):
     def test_the_command_runs_as_the_program_does(self):
         self.write("capacities.csv", "x\n")
         command = [f"{os.path.dirname(HERE)}/explain", "--program", PROGRAM, "plant.toml"]
-        run = subprocess.run(command, capture_output=True, encoding="utf-8")
+        run = forked.run(command)
         self.assertEqual((run.returncode, run.stderr), (0, ""))
         self.assertTrue(run.stdout.endswith("@end\n"))
-        run = subprocess.run([*command, "--capacities", "capacities.csv"], capture_output=True, encoding="utf-8")
+        run = forked.run([*command, "--capacities", "capacities.csv"])
         self.assertEqual((run.returncode, run.stdout), (4, ""))
         self.assertIn("no comma", run.stderr)
         with open("/dev/full", "w", encoding="utf-8") as full:
@@ -351,12 +352,12 @@ class Mistakes(unittest.TestCase):
     def test_messages_of_an_earlier_run(self):
         self.write("query.toml", self.network)
         tap = [f"{os.path.dirname(HERE)}/explain", "--messages", "-", "tap", "plant.toml", "readings", "0", "0", "query.toml"]
-        said = subprocess.run(tap, capture_output=True, encoding="utf-8", input="aurora: tap: Limit\n", check=True).stdout
+        said = forked.run(tap, input="aurora: tap: Limit\n", check=True).stdout
         self.assertIn("the query's 6 boxes are more than 128", said)
         self.write("messages", "aurora: network: Limit box 4 0\naurora: page 3 changed: aa bb\naurora: out of memory\nsomething else\n")
         self.write("plant.toml", self.network.replace("slack = 4", "slack = 40000"))
         command = [f"{os.path.dirname(HERE)}/explain", "--messages", "messages", "plant.toml"]
-        said = subprocess.run(command, capture_output=True, encoding="utf-8", check=True).stdout
+        said = forked.run(command, check=True).stdout
         for words in ("`slack` is 40,000", "Test the disk", "whole streams in memory", "\nsomething else\n"):
             self.assertIn(words, said)
 

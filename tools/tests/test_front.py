@@ -7,13 +7,15 @@ import subprocess
 import tempfile
 import unittest
 
+import forked
+
 TOP = os.path.dirname(os.path.dirname(os.path.dirname(os.path.abspath(__file__))))
 NAMES = ("draw", "explain", "output", "plan", "report", "shard", "stream")
 DESK = f"{TOP}/examples/desk"
 
 
 def ran(name, *words, **more):
-    return subprocess.run([f"{TOP}/tools/{name}", *words], capture_output=True, text=True, **more)
+    return forked.run([f"{TOP}/tools/{name}", *words], **more)
 
 
 class Front(unittest.TestCase):

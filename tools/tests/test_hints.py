@@ -7,6 +7,7 @@ import subprocess
 import tempfile
 import unittest
 
+import forked
 from aurora_tools import hints, network
 
 TOP = os.path.dirname(os.path.dirname(os.path.dirname(os.path.abspath(__file__))))
@@ -74,7 +75,7 @@ class Hints(unittest.TestCase):
         ran = subprocess.run([PROGRAM, "run", network, *words], cwd=room, capture_output=True, text=True)
         self.assertEqual(ran.returncode, 0, ran.stderr)
         asked = [f"{TOP}/tools/explain", "--hints", network, *(["-"] if text else []), *words]
-        return subprocess.run(asked, cwd=room, input=ran.stdout, capture_output=True, text=True)
+        return forked.run(asked, cwd=room, input=ran.stdout)
 
     def test_each_is_told_with_its_line(self):
         for old, new, s, t, capacities, line, said in CASES:
@@ -99,7 +100,7 @@ class Hints(unittest.TestCase):
                 self.assertEqual(list(hints.hints(network.read(path), None, None)), [])
 
     def test_a_network_that_is_refused_has_no_hints(self):
-        ran = subprocess.run([f"{TOP}/tools/explain", "--hints", f"{TOP}/examples/refused/typing.toml"], capture_output=True, text=True)
+        ran = forked.run([f"{TOP}/tools/explain", "--hints", f"{TOP}/examples/refused/typing.toml"])
         self.assertNotIn("Traceback", ran.stderr)
 
 

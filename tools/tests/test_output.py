@@ -8,6 +8,8 @@ import subprocess
 import tempfile
 import unittest
 
+import forked
+
 TOP = os.path.dirname(os.path.dirname(os.path.dirname(os.path.abspath(__file__))))
 BOXES = f"{TOP}/examples/boxes"
 
@@ -19,7 +21,7 @@ class Outputs(unittest.TestCase):
         self.room = room.name
 
     def made(self, form, where, network, text, *words):
-        return subprocess.run([f"{TOP}/tools/output", f"--{form}", where, *words, network, text], capture_output=True, text=True)
+        return forked.run([f"{TOP}/tools/output", f"--{form}", where, *words, network, text])
 
     def test_a_table_an_output_with_headings(self):
         self.assertEqual(self.made("csv", f"{self.room}/a", f"{TOP}/examples/desk/desk.toml", f"{TOP}/examples/desk/expected.txt").returncode, 0)

@@ -6,6 +6,8 @@ import subprocess
 import tempfile
 import unittest
 
+import forked
+
 TOP = os.path.dirname(os.path.dirname(os.path.dirname(os.path.abspath(__file__))))
 PROGRAM = os.environ["AURORA"]
 
@@ -65,7 +67,7 @@ class Plans(unittest.TestCase):
         return ran.stdout
 
     def planned(self, *words):
-        return subprocess.run([f"{TOP}/tools/plan", *words], cwd=self.room, capture_output=True, text=True)
+        return forked.run([f"{TOP}/tools/plan", *words], cwd=self.room)
 
     def test_a_plan_worked_by_hand(self):
         self.write("net.toml", HOURS)

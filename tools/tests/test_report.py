@@ -2,11 +2,11 @@
 import os
 import re
 import shutil
-import subprocess
 import tempfile
 import unittest
 import xml.etree.ElementTree
 
+import forked
 from aurora_tools import charts, network, run_text, series
 
 TOOLS = os.path.dirname(os.path.dirname(os.path.abspath(__file__)))
@@ -155,7 +155,7 @@ class Page(Files):
             text = file.read() if text is None else text
         page = f"{self.room.name}/page.html"
         env = {**os.environ, "PATH": path} if path else None
-        run = subprocess.run([shutil.which("python3"), f"{TOOLS}/report", *words, net, self.write("text", text), page], capture_output=True, encoding="utf-8", env=env)
+        run = forked.run([f"{TOOLS}/report", *words, net, self.write("text", text), page], env=env)
         if run.returncode:
             return run.stderr, ""
         with open(page, encoding="utf-8") as file:
@@ -209,7 +209,7 @@ class Picture(Files):
         """Returns the status, what is said, and the picture."""
         env = {**os.environ, "PATH": path} if path else None
         where = os.path.join(self.room.name, picture)
-        run = subprocess.run([shutil.which("python3"), f"{TOOLS}/draw", "--network", net, *words, self.write("text", text), where], capture_output=True, encoding="utf-8", env=env)
+        run = forked.run([f"{TOOLS}/draw", "--network", net, *words, self.write("text", text), where], env=env)
         drawn = None
         if os.path.exists(where):
             with open(where, "rb") as file:

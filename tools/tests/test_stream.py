@@ -10,6 +10,7 @@ import tempfile
 import time
 import unittest
 
+import forked
 from aurora_tools import moments
 from aurora_tools.tables import Refused
 
@@ -26,7 +27,7 @@ class Streams(unittest.TestCase):
     def run_on(self, text, *words, name="t.csv"):
         with open(f"{self.room}/{name}", "w", encoding="utf-8", newline="") as table:
             table.write(text)
-        return subprocess.run([f"{TOOLS}/stream", *words, name, "made.csv"], cwd=self.room, capture_output=True, text=True)
+        return forked.run([f"{TOOLS}/stream", *words, name, "made.csv"], cwd=self.room)
 
     def made(self, text, *words, name="t.csv"):
         """Returns the lines of the stream and of its table."""
@@ -62,7 +63,7 @@ class Streams(unittest.TestCase):
     def test_a_stream_to_standard_output_has_its_table_beside_it(self):
         with open(f"{self.room}/t.csv", "w", encoding="utf-8") as table:
             table.write("t,v\n1,2\n")
-        ran = subprocess.run([f"{TOOLS}/stream", "--time", "t", "t.csv", "-"], cwd=self.room, capture_output=True, text=True)
+        ran = forked.run([f"{TOOLS}/stream", "--time", "t", "t.csv", "-"], cwd=self.room)
         self.assertEqual(ran.stdout, "1,2\n")
         self.assertEqual(ran.stderr, '[[source]]\nname = "t"\nfile = "t.csv"\nfields = ["v:int"]\n')
 
@@ -206,13 +207,13 @@ class Streams(unittest.TestCase):
             with open(f"{self.room}/t.csv.zst", "wb") as table:
                 table.write(subprocess.run(["zstd", "-q"], input=b"t,v\n1,2\n", capture_output=True, check=True).stdout)
         for name in filter(lambda it: os.path.exists(f"{self.room}/{it}"), ("t.csv.gz", "t.csv.zst")):
-            ran = subprocess.run([f"{TOOLS}/stream", "--time", "t", name, "-"], cwd=self.room, capture_output=True, text=True)
+            ran = forked.run([f"{TOOLS}/stream", "--time", "t", name, "-"], cwd=self.room)
             self.assertEqual(ran.stdout, "1,2\n", ran.stderr)
             with open(f"{self.room}/{name}", "rb") as table:
                 whole = table.read()
             with open(f"{self.room}/{name}", "wb") as table:
                 table.write(whole[:-6])
-            ran = subprocess.run([f"{TOOLS}/stream", "--time", "t", name, "s.csv"], cwd=self.room, capture_output=True, text=True)
+            ran = forked.run([f"{TOOLS}/stream", "--time", "t", name, "s.csv"], cwd=self.room)
             self.assertEqual((ran.returncode, os.path.exists(f"{self.room}/s.csv")), (1, False), ran.stderr)
 
     def test_a_decimal_comma_is_told_and_read(self):
@@ -246,7 +247,7 @@ class Streams(unittest.TestCase):
             table.write("t,v\n1,2\n")
         os.symlink("own.csv", f"{self.room}/link.csv")
         for name in ("own.csv", "link.csv", "./own.csv"):
-            ran = subprocess.run([f"{TOOLS}/stream", "--time", "t", "own.csv", name], cwd=self.room, capture_output=True, text=True)
+            ran = forked.run([f"{TOOLS}/stream", "--time", "t", "own.csv", name], cwd=self.room)
             self.assertEqual((ran.returncode, ran.stdout), (1, ""))
             self.assertIn("it isn't written over", ran.stderr)
         with open(f"{self.room}/own.csv", encoding="utf-8") as table:
@@ -269,6 +270,6 @@ class Streams(unittest.TestCase):
             self.assertNotEqual(run.returncode, 0)
 
     def test_help_has_status_0(self):
-        ran = subprocess.run([f"{TOOLS}/stream", "--help"], capture_output=True, text=True)
+        ran = forked.run([f"{TOOLS}/stream", "--help"])
         self.assertEqual((ran.returncode, ran.stderr), (0, ""))
         self.assertIn("aurora-stream --time COLUMN", ran.stdout)
