@@ -3,6 +3,7 @@
 A column is looked at as one text, a line for each cell, where all of its cells are of the usual form; else cell by cell.
 """
 import dataclasses
+import functools
 import re
 
 from .numbers import NUMBER, whole
@@ -12,8 +13,15 @@ INTEGERS = re.compile(r"(?>(?>-?+(?>0|[1-9][0-9]*+))?+\n)*+")
 DECIMALS = re.compile(r"(?>(?>-?+(?>0|[1-9][0-9]*+)(?>\.[0-9]++)?+)?+\n)*+")
 COMMAS = re.compile(r"(?>(?>-?+[0-9]++(?>,[0-9]++)?+)?+\n)*+")
 SPECIAL = re.compile('[,"\r]')
-BEGINS_WITH_ZERO = re.compile(r"^(-?)0+(?=[0-9])")
+BEGINS_WITH_ZERO = re.compile(r"(?m)^(-?)0+(?=[0-9])")
 FEW_WORDS, SAFE_LENGTH = 3, 18
+
+
+@functools.cache
+def exactly(digits):
+    """Returns the pattern of lines of numbers with so many digits behind the point, of which no other digit is needless, within 64 bits."""
+    behind = rf"\.[0-9]{{{digits}}}" if digits else ""
+    return re.compile(rf"(?>(?>-?+(?>0|[1-9][0-9]{{0,{SAFE_LENGTH - 1 - digits}}}+){behind})?+\n)*+")
 
 
 class Lines:
@@ -23,7 +31,7 @@ class Lines:
         self.begin()
 
     def begin(self):
-        self.known, self.decimal = {}, set()
+        self.known, self.decimal, self.exact = {}, set(), set()
 
     def of(self, cells):
         """Returns the cells as lines of one text, or None where one has a line feed."""
@@ -31,6 +39,15 @@ class Lines:
             lines = "\n".join(cells) + "\n"
             self.known[id(cells)] = lines if lines.count("\n") == len(cells) else None, cells
         return self.known[id(cells)][0]
+
+    def are_exact(self, cells, digits):
+        """Says whether each cell that isn't empty is a number with exactly so many digits behind the point."""
+        if (id(cells), digits) in self.exact:
+            return True
+        lines = self.of(cells) if digits < SAFE_LENGTH else None
+        if found := lines is not None and exactly(digits).fullmatch(lines) is not None:
+            self.exact.add((id(cells), digits))
+        return found
 
     def are_decimal(self, lines):
         if id(lines) in self.decimal:
@@ -49,6 +66,19 @@ def within(text, value):
     if not -2**63 <= value < 2**63:
         raise Refused(f"{text} is out of 64 bits")
     return str(value)
+
+
+def without_zeros(lines):
+    """Returns lines of whole numbers, each without zeros before its first digit, and 0 without a sign."""
+    if lines[0] in "0-" or "\n0" in lines or "\n-" in lines:
+        lines = BEGINS_WITH_ZERO.sub(r"\1", lines)
+    made = lines[:-1].split("\n")
+    return ["0" if it == "-0" else it for it in made] if "-0" in made else made
+
+
+def without_points(lines, cells, digits):
+    """Returns numbers with so many digits behind the point as whole numbers."""
+    return without_zeros(lines.replace(".", "")) if digits else cells if "-0" not in lines else without_zeros(lines)
 
 
 @dataclasses.dataclass
@@ -88,6 +118,8 @@ class Field:
         return '"' + cell.replace('"', '""') + '"' if SPECIAL.search(cell) else cell
 
     def usual_int(self, cells, given):
+        if not given.comma and given.lines.are_exact(cells, self.digits):
+            return without_points(given.lines.of(cells), cells, self.digits)
         lines = given.lines.of(cells)
         if lines is None:
             return None
@@ -96,17 +128,10 @@ class Field:
         if INTEGERS.fullmatch(lines):
             made = [it and it + zeros for it in cells] if zeros else cells
         elif zeros and (DECIMALS.fullmatch(lines) if given.comma else given.lines.are_decimal(lines)) and not re.search(rf"\.[0-9]{{{self.digits + 1}}}", lines):
-            if re.fullmatch(rf"(?>(?>-?+[0-9]++\.[0-9]{{{self.digits}}})?+\n)*+", lines):
-                made = lines[:-1].replace(".", "").split("\n")
-            else:
-                made = [before and before + after + zeros[len(after):] for before, _, after in (it.partition(".") for it in lines[:-1].split("\n"))]
+            made = [before and before + after + zeros[len(after):] for before, _, after in (it.partition(".") for it in lines[:-1].split("\n"))]
         else:
             return None
-        if zeros and min(made, default="1") < "1":
-            made = [it if it >= "1" or not it else BEGINS_WITH_ZERO.sub(r"\1", it) for it in made]
-        if "-0" in made:
-            made = ["0" if it == "-0" else it for it in made]
-        return made if max(map(len, made), default=0) <= SAFE_LENGTH else None
+        return without_zeros("\n".join(made) + "\n") if max(map(len, made), default=0) <= SAFE_LENGTH else None
 
     def usual_time(self, cells, given):
         there = [it for it in cells if it]
@@ -144,6 +169,9 @@ class Guess:
 
     def add(self, cells, first):
         """Looks at further cells. Returns whether what was seen before would be written otherwise now."""
+        if self.seen and self.number and not self.boolean and not self.given.comma and self.given.lines.are_exact(cells, self.digits):
+            self.numbers += len(cells) - cells.count("")
+            return False
         before = (self.kind, self.digits) if self.seen else None
         if not any(cells):
             return False

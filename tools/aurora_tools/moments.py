@@ -7,7 +7,7 @@ from .tables import Refused
 from .numbers import whole
 
 UNITS = {"ns": 1, "us": 10**3, "ms": 10**6, "s": 10**9, "m": 60 * 10**9, "h": 3600 * 10**9, "d": 86400 * 10**9}
-MOST_TICK, MOST_KEPT = 2**40, 20_000
+MOST_TICK, MOST_KEPT, SAMPLE = 2**40, 20_000, 64
 EPOCH, FIRST_DAY = datetime.datetime(1970, 1, 1, tzinfo=datetime.timezone.utc), datetime.date(1970, 1, 1).toordinal()
 OFFSET = r"(Z|z|[-+][0-9]{2}(?::?[0-9]{2})?)?"
 CLOCK = r"([0-9]{2})(?::?([0-9]{2})(?::?([0-9]{2})(?:[.,]([0-9]+))?)?)?"
@@ -127,27 +127,45 @@ def rest(text, local):
     return fraction(found[1] or "") - offset(found[2]) * 10**9
 
 
-def cut_times(times, width, cells):
-    """Returns times by the kept parts before their seconds, of their seconds, and behind these, or None where one isn't of that form."""
-    heads, seconds, rests, end = times.heads, times.seconds, times.rests, width + 2
-    try:
-        return [heads[it[:width]] + seconds[it[width:end]] + rests[it[end:]] for it in cells]
-    except KeyError:
-        return None
+class Parts:
+    """Times as the sum of their parts, which are kept: up to the minute, in so many letters, and from the seconds on. They are told in
+    units of so many nanoseconds from an origin on; a part that is no whole number of these, or not of the form, is a KeyError."""
+
+    def __init__(self, width, head, rest, unit=1, origin=0):
+        def whole_units(past):
+            units, more = divmod(past, unit)
+            if more:
+                raise KeyError(past)
+            return units
+        self.width = width
+        self.heads = Kept(lambda it: whole_units(head(it) - origin))
+        self.seconds, self.rests = Kept(lambda it: whole_units(second(it))), Kept(lambda it: whole_units(rest(it)))
+        self.upper = Kept(lambda it: self.heads[it[:width]] + self.seconds[it[width:]])
+
+    def all(self, cells):
+        """Returns the times of cells, or None where one isn't the sum of such parts."""
+        heads, seconds, rests, upper, width, behind = self.heads, self.seconds, self.rests, self.upper, self.width, self.width + 2
+        begin = cells[:SAMPLE]
+        try:
+            if 4 * len({it[:behind] for it in begin}) <= len(begin):
+                # Some share their second, so that what is above it needs to be cut but once.
+                return [upper[it[:behind]] + rests[it[behind:]] for it in cells]
+            return [heads[it[:width]] + seconds[it[width:behind]] + rests[it[behind:]] for it in cells]
+        except KeyError:
+            return None
 
 
 class Iso:
-    """Times of ISO 8601. Most share their minute with the one before, so the parts are kept."""
+    """Times of ISO 8601."""
 
     def __init__(self, local):
-        self.heads, self.seconds = Kept(lambda it: head(it, local)), Kept(second)
-        self.rests, self.wholes = Kept(lambda it: rest(it, local)), Kept(lambda it: iso(it, local))
+        self.local, self.wholes = local, Kept(lambda it: iso(it, local))
 
     def one(self, text):
         return self.wholes[text]
 
-    def all(self, cells):
-        return cut_times(self, 17, cells)
+    def parts(self, unit, origin):
+        return Parts(17, lambda it: head(it, self.local), lambda it: rest(it, self.local), unit, origin)
 
 
 class Number:
@@ -161,6 +179,9 @@ class Number:
         if rest:
             raise Refused(f"{text} is finer than a nanosecond")
         return past
+
+    def parts(self, unit, origin):
+        return None
 
     def all(self, cells):
         lines, unit = "\n".join(cells) + "\n", self.unit
@@ -197,7 +218,6 @@ class Form:
         if self.is_cut:
             self.width = sum(WIDTHS.get(it, len(it)) for it in before)
             self.before, self.behind = pattern_of(before), pattern_of(behind)
-            self.heads, self.seconds, self.rests = Kept(self.head), Kept(second), Kept(self.rest)
 
     def seconds_of(self, part):
         """Returns the seconds since 1970 of the parts of a form but for its zone, or None where its month has another name."""
@@ -239,8 +259,8 @@ class Form:
     def one(self, text):
         return self.kept[text]
 
-    def all(self, cells):
-        return cut_times(self, self.width, cells) if self.is_cut else None
+    def parts(self, unit, origin):
+        return Parts(self.width, self.head, self.rest, unit, origin) if self.is_cut else None
 
 
 def reader(unit, local):
@@ -255,6 +275,7 @@ class Ticks:
         self.local = zone_named(zone) if zone else utc
         self.times, self.tick, self.down = reader(unit, self.local), UNITS[tick], down
         self.origin = 0 if origin is None else self.origin_of(origin)
+        self.parts = self.times.parts(1, 0) if down else self.times.parts(self.tick, self.origin)
 
     def origin_of(self, text):
         """An origin is written as in the column, or in ISO 8601 whatever stands there."""
@@ -285,15 +306,18 @@ class Ticks:
     def all(self, cells):
         """Returns the ticks of many cells, or None where one after the other is to be looked at."""
         try:
-            found = self.times.all(cells)
+            found = self.parts.all(cells) if self.parts else self.ticks_of(self.times.all(cells)) if isinstance(self.times, Number) else None
         except Refused:
             return None
-        if not found:
-            return found
-        origin, tick = self.origin, self.tick
-        total = sum(found) - origin * len(found)
-        found = [(it - origin) // tick for it in found]
-        # No rest is negative, so all are 0 where their sum is.
-        if not self.down and total != tick * sum(found):
+        if found and self.parts and self.down:
+            found = self.ticks_of(found)
+        return found if found and min(found) >= 0 and max(found) < MOST_TICK else None
+
+    def ticks_of(self, pasts):
+        """Returns the ticks of nanoseconds, or None where one lies between two ticks."""
+        if not pasts:
             return None
-        return found if min(found) >= 0 and max(found) < MOST_TICK else None
+        origin, tick = self.origin, self.tick
+        found = [(it - origin) // tick for it in pasts]
+        # No rest is negative, so all are 0 where their sum is.
+        return found if self.down or sum(pasts) - origin * len(pasts) == tick * sum(found) else None

@@ -161,7 +161,8 @@ class Streams(unittest.TestCase):
             times = [datetime.datetime(1999 + it, it % 12 + 1, it % 28 + 1, it % 24, it * 7 % 60, it * 11 % 60, it * 250_000 % 10**6, zones[it % 3]) for it in range(30)]
             cells = [it.strftime(form) for it in times] + ["1/1/1", ""]
             reader = moments.Form(form, moments.utc)
-            for cell, many in zip(cells, reader.all(cells[:30]) or [None] * 30):
+            parts = reader.parts(1, 0)
+            for cell, many in zip(cells, parts and parts.all(cells[:30]) or [None] * 30):
                 moment = datetime.datetime.strptime(cell, form)
                 past = (moment if moment.tzinfo else moment.replace(tzinfo=datetime.timezone.utc)) - moments.EPOCH
                 wanted = (past.days * 86400 + past.seconds) * 10**9 + past.microseconds * 1000
