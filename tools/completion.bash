@@ -63,7 +63,7 @@ output: --csv --jsonl --sqlite --output --field --tick --origin
 plan: --epoch --full --load
 report: --seconds --title
 shard: --on-time --capacities --work --resume --sshlogin --slurm --merge --program --keys
-stream: --time --unit --zone --tick --origin --down --field --number --missing --true --false --comma --sort --running --form --separator --name --long
+stream: --time --unit --zone --tick --origin --down --field --decimals --cut --number --missing --true --false --comma --sort --running --form --separator --name --long
 WORDS
 }
 

@@ -14,7 +14,7 @@ DECIMALS = re.compile(r"(?>(?>-?+(?>0|[1-9][0-9]*+)(?>\.[0-9]++)?+)?+\n)*+")
 COMMAS = re.compile(r"(?>(?>-?+[0-9]++(?>,[0-9]++)?+)?+\n)*+")
 SPECIAL = re.compile('[,"\r]')
 BEGINS_WITH_ZERO = re.compile(r"(?m)^(-?)0+(?=[0-9])")
-FEW_WORDS, SAFE_LENGTH = 3, 18
+FEW_WORDS, SAFE_LENGTH, MOST_TEXT = 3, 18, 255
 
 
 @functools.cache
@@ -97,6 +97,10 @@ class Field:
     def one_by_one(self, cells, given):
         made = []
         for at, cell in enumerate(cells):
+            if given.cut and self.kind == "text" and len(cell.encode()) > MOST_TEXT:
+                cell = cell.encode()[:MOST_TEXT].decode(errors="ignore")
+                count, first = given.cuts.get(self.name, (0, given.row + at))
+                given.cuts[self.name] = count + 1, first
             try:
                 made.append(self.one(cell, given) if cell else "")
             except Refused as why:
@@ -113,8 +117,10 @@ class Field:
             if cell not in given.booleans:
                 raise Refused(f"{cell!r} is no word for true or false")
             return given.booleans[cell]
-        if "\n" in cell or len(cell.encode()) > 255:
-            raise Refused("a text over 255 bytes, or with a line feed")
+        if len(cell.encode()) > MOST_TEXT:
+            raise Refused(f"a text over {MOST_TEXT} bytes: --cut cuts it there")
+        if "\n" in cell:
+            raise Refused("a text with a line feed")
         return '"' + cell.replace('"', '""') + '"' if SPECIAL.search(cell) else cell
 
     def usual_int(self, cells, given):
@@ -152,7 +158,7 @@ class Field:
         if lines is None or SPECIAL.search(lines):
             return None
         longest = max(map(len, cells), default=0)
-        return cells if longest <= 63 or longest <= 255 and lines.isascii() else None
+        return cells if longest <= MOST_TEXT // 4 or longest <= MOST_TEXT and lines.isascii() else None
 
 
 class Guess:
@@ -160,7 +166,8 @@ class Guess:
 
     def __init__(self, column, given):
         self.column, self.given = column, given
-        self.seen, self.boolean, self.number, self.digits = False, True, True, 0
+        self.fixed = given.digits.get(column)
+        self.seen, self.boolean, self.number, self.digits, self.wide = False, True, True, self.fixed or 0, None
         self.words, self.numbers, self.commas, self.comma = {}, 0, True, False
 
     @property
@@ -179,14 +186,14 @@ class Guess:
         if self.boolean:
             self.boolean = self.given.booleans_or_missing.keys() >= set(cells)
         if self.number:
-            self.look_at_numbers(cells)
+            self.look_at_numbers(cells, first)
         if self.number:
             self.numbers += len(cells) - cells.count("")
         elif self.words is not None or self.commas:
             self.look_at_words(cells, first)
         return before is not None and before != (self.kind, self.digits)
 
-    def look_at_numbers(self, cells):
+    def look_at_numbers(self, cells, first):
         lines = self.given.lines.of(cells)
         if lines and self.given.comma:
             lines = with_points(lines)
@@ -194,13 +201,21 @@ class Guess:
         if not self.number:
             self.digits = 0
             return
-        if "." in lines:
+        if "." in lines and self.fixed is None:
             longer = re.findall(rf"\.([0-9]{{{self.digits + 1},}})", lines)
             self.digits = max(map(len, longer), default=self.digits)
         if max(map(len, cells)) + self.digits > SAFE_LENGTH:
-            self.number = max(map(len, cells)) <= 1000 and self.digits <= 18 and all(
-                abs(whole(it, self.digits)) < 2**63 for it in lines[:-1].split("\n") if len(it) + self.digits > SAFE_LENGTH)
+            wide = next((first + at for at, it in enumerate(lines[:-1].split("\n")) if len(it) + self.digits > SAFE_LENGTH and self.leaves(it)), None)
+            if wide is not None:
+                self.number, self.wide = False, (wide, self.digits)
             self.digits = self.digits if self.number else 0
+
+    def leaves(self, text):
+        """Says whether a number leaves 64 bits by the digits that the column has behind the point."""
+        try:
+            return self.digits > SAFE_LENGTH or not -2**63 < whole(text, self.digits) < 2**63
+        except Refused:
+            return self.fixed is None
 
     def look_at_words(self, cells, first):
         if self.commas:

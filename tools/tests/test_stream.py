@@ -9,9 +9,10 @@ import subprocess
 import tempfile
 import time
 import unittest
+import unittest.mock
 
 import forked
-from aurora_tools import moments
+from aurora_tools import moments, stream_file
 from aurora_tools.tables import Refused
 
 TOOLS = os.path.dirname(os.path.dirname(os.path.abspath(__file__)))
@@ -120,7 +121,7 @@ class Streams(unittest.TestCase):
         self.refused("has more than 1 decimal", f"t,v\n1,1.{'0' * 500}1\n", "--time", "t", "--field", "v:int.1")
         self.refused("line 2, v: 'NaN' is no number", "t,v\n1,NaN\n", "--time", "t", "--field", "v:int")
         self.refused("line 2, v: 'yes' is no word for true or false", "t,v\n1,yes\n", "--time", "t", "--field", "v:bool")
-        self.refused("line 2, v: a text over 255 bytes", f"t,v\n1,{'ä' * 128}\n", "--time", "t")
+        self.refused("line 2, v: a text over 255 bytes: --cut", f"t,v\n1,{'ä' * 128}\n", "--time", "t")
         self.refused("a line feed", 't,v\n1,"a\nb"\n', "--time", "t")
         self.refused("line 1, v: an empty text", '{"t": 1, "v": ""}\n', "--time", "t", name="t.jsonl")
 
@@ -194,7 +195,7 @@ class Streams(unittest.TestCase):
         many = "".join(f"{it},a\n" for it in range(60_000))
         lines, _ = self.made(f't,v\n{many}60000,"b, c"\n\n60001,d\n', "--time", "t")
         self.assertEqual(lines[-3:], ["59999,a", '60000,"b, c"', "60001,d"])
-        self.refused("line 60005, v: a text over 255 bytes, or with a line feed", f't,v\n{many}60000,"b"\n\n60001,"d\ne"\n', "--time", "t")
+        self.refused("line 60005, v: a text with a line feed", f't,v\n{many}60000,"b"\n\n60001,"d\ne"\n', "--time", "t")
 
     def test_sorting_is_stable_over_many_blocks(self):
         rows = [(it * 7919 % 50_021, it) for it in range(60_000)]
@@ -239,9 +240,33 @@ class Streams(unittest.TestCase):
         self.refused("line 3: no line of an access log", log + "x\n", *words)
 
     def test_a_long_table_is_written_only_where_that_is_said(self):
-        rows = "t,v\n" + "1,2\n" * 1_000_001
-        self.refused("say --long, and run it with aurora-shard", rows, "--time", "t")
-        self.assertEqual(len(self.made(rows, "--time", "t", "--long")[0]), 1_000_001)
+        self.assertEqual((stream_file.MOST_TUPLES, stream_file.MOST_BYTES), (1_000_000, 64 * 2**20), "what a run takes of a source")
+        for limit, most, why in (("MOST_TUPLES", 1000, "more than 1,000 tuples"), ("MOST_BYTES", 4000, "more than 4,000 bytes")):
+            with self.subTest(limit), unittest.mock.patch.object(stream_file, limit, most):
+                self.assertEqual(len(self.made("t,v\n" + "1,2\n" * 1000, "--time", "t")[0]), 1000)
+                rows = "t,v\n" + "1,2\n" * 1001
+                self.refused(f"{why}, which is the most that a run takes of a source", rows, "--time", "t")
+                self.assertEqual(len(self.made(rows, "--time", "t", "--long")[0]), 1001)
+
+    def test_wide_texts_are_cut_where_that_is_said(self):
+        ran = self.run_on(f"t,v\n1,{'a' * 255}\n2,{'ä' * 128}\n3,{'b' * 300}\n", "--time", "t", "--cut")
+        self.assertIn("stream: 2 texts of v over 255 bytes were cut, the first in line 3\n", ran.stderr)
+        with open(f"{self.room}/made.csv", encoding="utf-8") as stream:
+            self.assertEqual(stream.read(), f"1,{'a' * 255}\n2,{'ä' * 127}\n3,{'b' * 255}\n")
+
+    def test_one_scale_in_all_tables(self):
+        self.assertEqual(self.made("t,p,n\n1,10,7\n2,10.5,\n", "--time", "t", "--decimals", "p=4")[0], ["1,100000,7", "2,105000,"])
+        self.assertEqual(self.made("t,p\n1,10\n", "--time", "t", "--decimals", "p=4"), (["1,100000"], ["# p: p times 10000", "[[source]]", 'name = "made"', 'file = "made.csv"', 'fields = ["p:int"]', ""]))
+        self.refused("line 2, p: 1.25 has more than 1 decimal", "t,p\n1,1.25\n", "--time", "t", "--decimals", "p=1")
+        self.refused("not all in that column are numbers", "t,p\n1,1.25\n2,x\n", "--time", "t", "--decimals", "p=4")
+        self.refused("there is no column 'q'", "t,p\n1,1.25\n", "--time", "t", "--decimals", "q=4")
+        self.refused("it is COLUMN=N", "t,p\n1,1.25\n", "--time", "t", "--decimals", "p=x")
+
+    def test_a_number_that_leaves_64_bits_is_told(self):
+        ran = self.run_on("t,id,v\n1,7,1.123456789\n2,9223372036854775807,12345678901\n3,9223372036854775808,2\n", "--time", "t")
+        self.assertIn('fields = ["id:text", "v:text"]', ran.stdout)
+        self.assertIn("stream: id is text because the number in line 4 leaves 64 bits\n", ran.stderr)
+        self.assertIn("stream: v is text because the number in line 3 times 1000000000, by the decimals of others, leaves 64 bits\n", ran.stderr)
 
     def test_nothing_that_is_read_is_written_over(self):
         with open(f"{self.room}/own.csv", "w", encoding="utf-8") as table:
