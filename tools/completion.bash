@@ -77,7 +77,7 @@ _aurora_tool()
         --form) mapfile -t COMPREPLY < <(compgen -W "csv tsv jsonl clf" -- "$word") ;;
         *)
             if [[ $word == -* ]]; then
-                mapfile -t COMPREPLY < <(compgen -W "$(_aurora_tool_words "$1") --help" -- "$word")
+                mapfile -t COMPREPLY < <(compgen -W "$(_aurora_tool_words "$1") --help --version" -- "$word")
             else
                 mapfile -t COMPREPLY < <(compgen -f -- "$word")
             fi

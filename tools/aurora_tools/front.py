@@ -1,36 +1,102 @@
-"""What all tools do alike at their front: words, --help, how they end, and files that are written whole or not at all."""
+"""What all tools do alike at their front: words, --help and --version, lines that fit a terminal, how they end, and files that are
+written whole or not at all."""
 import argparse
 import contextlib
 import os
+import re
 import secrets
 import shutil
 import signal
 import stat
 import sys
 import tempfile
+import textwrap
+
+
+LINE_OF_HELP = re.compile(r"(    \S.*?)(?:  +(\S.*))?$")
+
+
+def version():
+    """Returns the version: the file VERSION beside the installed tools, or at the top of the repository."""
+    tools = os.path.dirname(os.path.dirname(os.path.realpath(__file__)))
+    for path in (f"{tools}/VERSION", f"{os.path.dirname(tools)}/VERSION"):
+        with contextlib.suppress(OSError), open(path, encoding="utf-8") as file:
+            return file.read().strip()
+    return "of no known version"
+
+
+def columns(stream, otherwise):
+    """Returns how wide the terminal is that a stream goes to: COLUMNS, or what the terminal says, or where there is none this."""
+    with contextlib.suppress(ValueError, OSError):
+        return max(30, int(os.environ.get("COLUMNS", 0)) or os.get_terminal_size(stream.fileno()).columns)
+    return otherwise
+
+
+def fitted(text, stream):
+    """Returns lines as they fit the terminal of a stream, those that show a file's line as they are. Where there is no terminal all are."""
+    width = columns(stream, 0)
+
+    def lines(line):
+        if not width or len(line) <= width or re.match(r" +[0-9]* \|", line):
+            return line
+        indent = line[:len(line) - len(line.lstrip())]
+        return textwrap.fill(line.strip(), width, initial_indent=indent, subsequent_indent=indent + "  ", break_on_hyphens=False, break_long_words=False)
+    return "\n".join(map(lines, text.split("\n")))
+
+
+def help_of(about, width):
+    """Returns the text of a tool as it fits so many columns: each paragraph, and each word with what it means, is filled anew."""
+    hang = 28 if width >= 72 else 8
+    found = []
+    for block in about.strip().split("\n\n"):
+        entries = []
+        for line in block.split("\n"):
+            entry = LINE_OF_HELP.match(line)
+            if entry and not line.startswith("     "):
+                entries.append([entry[1], entry[2] or ""])
+            elif entries:
+                entries[-1][1] += " " * bool(entries[-1][1]) + line.strip()
+            else:
+                entries.append(["", line.strip()])
+        for words, said in entries:
+            room, begin = (hang, words.ljust(hang - 1) + " ") if words else (0, "")
+            if said and words and len(begin) > hang:
+                found.append(words)
+                begin = " " * hang
+            found += textwrap.wrap(said, width, initial_indent=begin, subsequent_indent=" " * room, break_on_hyphens=False) if said else [words]
+        found.append("")
+    return "\n".join(found[:-1])
+
+
+def answered(name, about, words):
+    """Answers --help, -h and --version, and says whether one of them was asked."""
+    if "-h" in words or "--help" in words:
+        print(help_of(about.replace(f"tools/{name}", f"aurora-{name}"), min(columns(sys.stdout, 120), 140)))
+        return True
+    if "--version" in words:
+        print(f"aurora-{name} {version()}")
+        return True
+    return False
+
+
+def complaint(name, why):
+    """Ends a tool whose words are none: a line, and the status 2."""
+    print(f"{name}: {clean(why)}; aurora-{name} --help tells more", file=sys.stderr)
+    sys.exit(2)
 
 
 def parser(name, about):
     """Returns a parser of words whose help is the text of a tool, and whose complaint is one line."""
-    layout = argparse.RawDescriptionHelpFormatter
-    made = argparse.ArgumentParser(prog=f"aurora-{name}", description=about.replace(f"tools/{name}", f"aurora-{name}"), formatter_class=layout,
-                                   usage=argparse.SUPPRESS, add_help=False, allow_abbrev=False)
-    made.add_argument("-h", "--help", action="store_true", help=argparse.SUPPRESS)
-
-    def complain(why):
-        if any(it in ("-h", "--help") for it in sys.argv[1:]):
-            print(made.description.strip())
-            sys.exit(0)
-        print(f"{name}: {clean(why)}; aurora-{name} --help tells more", file=sys.stderr)
-        sys.exit(2)
-    made.error = complain
+    made = argparse.ArgumentParser(prog=name, description=about, usage=argparse.SUPPRESS, add_help=False, allow_abbrev=False)
+    made.error = lambda why: complaint(name, why)
     return made
 
 
 def parsed(made):
-    """Returns the words, or shows the help where it is asked for."""
-    given = made.parse_args()
-    return made.error("") if given.help else given
+    """Returns the words, or shows the help or the version where these are asked for."""
+    if answered(made.prog, made.description, sys.argv[1:]):
+        sys.exit(0)
+    return made.parse_args()
 
 
 def clean(text):

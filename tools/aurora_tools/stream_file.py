@@ -79,7 +79,7 @@ class Stream:
     def merge_into(self, file):
         """Writes one run made of all, those of one time in the order of their runs."""
         self.file.flush()
-        size = max(1 << 12, (1 << 22) // len(self.runs))
+        size = max(1 << 12, (1 << 20) // len(self.runs))
         runs = [lines_between(self.file.fileno(), low, high, size) for low, high in zip(self.runs, [*self.runs[1:], self.bytes])]
         merged = heapq.merge(*runs, key=tick_of) if len(runs) > 1 else runs[0]
         while lines := list(itertools.islice(merged, 10_000)):

@@ -48,5 +48,6 @@ offers_of() {
 offers_of "--unit" aurora-stream --u
 offers_of "ns us ms s m h d" aurora-stream --tick ""
 offers_of "--hints --help" aurora-explain --h
+offers_of "--version" aurora-explain --v
 offers_of "capacity.csv" aurora-plan front.toml cap
 exit $failed

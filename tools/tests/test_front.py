@@ -25,8 +25,27 @@ class Front(unittest.TestCase):
                 with self.subTest(name=name, word=word):
                     said = ran(name, word)
                     self.assertEqual((said.returncode, said.stderr), (0, ""))
-                    self.assertRegex(said.stdout, rf"\A[A-Z][^\n]*[.:]?[^\n]*\n\n    aurora-{name} ")
+                    self.assertRegex(said.stdout, rf"\A[A-Z](?:[^\n]+\n)+\n    aurora-{name} ")
                     self.assertNotIn("tools/", said.stdout)
+
+    def test_the_version_is_that_of_the_file(self):
+        with open(f"{TOP}/VERSION", encoding="utf-8") as file:
+            version = file.read().strip()
+        for name in NAMES:
+            said = ran(name, "--version")
+            self.assertEqual((said.returncode, said.stdout, said.stderr), (0, f"aurora-{name} {version}\n", ""))
+
+    def test_lines_fit_the_terminal(self):
+        for columns in (50, 80, 132):
+            for name in NAMES:
+                lines = ran(name, "--help", env={**os.environ, "COLUMNS": str(columns)}).stdout.split("\n")
+                ways = [it for it in lines if it.startswith(f"    aurora-{name} ")]
+                self.assertTrue(ways)
+                self.assertLessEqual(max(len(it) for it in lines if it not in ways), columns, name)
+        words = ["explain", "--messages", "-", "--polcy", "rr", "net.toml"]
+        said = ran(*words, input="aurora: usage: aurora run NET [options]\n", env={**os.environ, "COLUMNS": "50"}).stdout
+        self.assertLessEqual(max(map(len, said.split("\n"))), 50)
+        self.assertEqual(" ".join(said.split()), " ".join(ran(*words, input="aurora: usage: aurora run NET [options]\n").stdout.split()))
 
     def test_words_that_are_none_are_one_line_and_status_2(self):
         for name in NAMES:
@@ -69,16 +88,17 @@ class Front(unittest.TestCase):
                 self.assertLessEqual(taken, described)
 
     def test_the_completion_has_their_words(self):
-        with open(f"{TOP}/tools/completion.bash", encoding="utf-8") as text:
-            self.assertIn(f"<<'WORDS'\n{ran('pages', '--words').stdout}WORDS\n", text.read())
+        for shell, option in (("bash", "--words"), ("zsh", "--zsh")):
+            with self.subTest(shell), open(f"{TOP}/tools/completion.{shell}", encoding="utf-8") as text:
+                self.assertIn(f"<<'WORDS'\n{ran('pages', option).stdout}WORDS\n", text.read())
 
     def test_each_has_a_manual_page(self):
         with tempfile.TemporaryDirectory() as room:
-            self.assertEqual(ran("pages", room).returncode, 0)
+            self.assertEqual(ran("pages", room, "1.2.3").returncode, 0)
             self.assertEqual(sorted(os.listdir(room)), [f"aurora-{name}.1" for name in NAMES] + ["aurora_keys.1"])
             with open(f"{room}/aurora-stream.1", encoding="utf-8") as page:
                 text = page.read()
-            for words in (".SH SYNOPSIS", ".B \\-\\-time COLUMN", ".SH SEE ALSO"):
+            for words in (".TH AURORA-STREAM 1 \"\" \"aurora 1.2.3\"", ".B \\-\\-version", ".SH SYNOPSIS", ".B \\-\\-time COLUMN", ".SH SEE ALSO"):
                 self.assertIn(words, text)
 
 

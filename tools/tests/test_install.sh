@@ -19,7 +19,9 @@ PATH="$room/my place/bin:$PATH"
     diff - <(echo time,symbol,trades,average; grep ^averages examples/desk/expected.txt | cut -d, -f2-) || fail "the installed program or tool doesn't answer"
 for tool in plan stream output; do
     "aurora-$tool" --help | grep -q "aurora-$tool" || fail "aurora-$tool isn't installed"
+    [[ "$("aurora-$tool" --version)" == "aurora-$tool $(cat VERSION)"* ]] || fail "aurora-$tool doesn't tell the installed version"
 done
+grep -q '^#compdef aurora ' "$room/my place/share/zsh/site-functions/_aurora" || fail "the completion of zsh isn't installed"
 [ -f "$room/my place/share/doc/aurora/examples/first/../../docs/network.schema.json" ] || fail "examples don't find their schema"
 [ "$(gzip -dc "$room/my place/share/man/man1/aurora.1.gz" | tail -n +2)" = "$(tail -n +2 docs/aurora.1)" ] || fail "the manual page isn't installed"
 gzip -dc "$room/my place/share/man/man1/aurora.1.gz" | head -n 1 | grep -qF "aurora $(cat VERSION)" || fail "the manual page doesn't tell its version"
