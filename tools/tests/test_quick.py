@@ -31,9 +31,9 @@ class Said(unittest.TestCase):
     def test_first_and_last_it_proves_nothing(self):
         lines, status = self.ran(("all", ["true"], None))
         self.assertEqual((len(lines), status), (3, 0))
-        self.assertIn("proves nothing", lines[0])
-        self.assertIn("Nothing is proved", lines[-1])
-        self.assertRegex(lines[1], r"^quick: all +ok +[0-9.]+ s$")
+        self.assertIn("this proves nothing", lines[0])
+        self.assertIn("This proves nothing", lines[-1])
+        self.assertRegex(lines[1], r"^quick: all +ok +[0-9.]+ s, +[0-9.]+ of a processor$")
 
     def test_what_failed_is_shown_and_named(self):
         lines, status = self.ran(("first", ["sh", "-c", "echo why; exit 3"], None), ("second", ["echo", "one"], lambda said: "" if said == "two\n" else "it isn't two"), ("third", ["true"], None))
