@@ -1,4 +1,4 @@
-"""Which edits apply, which crates are tried, and what is laid into the room where they are."""
+"""Which edits apply, what is laid into the room where they are tried, and what is told of the verdicts."""
 import importlib.machinery
 import importlib.util
 import os
@@ -66,22 +66,27 @@ class Tried(unittest.TestCase):
         self.write("crates/low/must-fail/of_the_gate.edit", FILES["crates/low/edits/a_sum.edit"])
         with tempfile.TemporaryDirectory() as place:
             room = pathlib.Path(place)
-            self.assertEqual(edits.lay(room, ["high"], edits.dependencies(self.top)), {"high", "low"})
+            self.assertEqual(edits.lay(room, ["high"], edits.kept.dependencies(self.top)), {"high", "low"})
             self.assertEqual((room / "crates.txt").read_text(), "low:\nhigh: low # and no other\n")
             self.assertEqual([it.name for it in (room / "crates/high/must-fail").iterdir()], ["less.edit"])
             self.assertFalse((room / "crates/low/must-fail").exists())
 
-    def test_a_library_is_of_its_text(self):
-        library = self.write("crates/low/out/rlib/low.rlib", "")
-        folder = self.top / "crates/low"
-        os.utime(folder / "src/lib.rt", (1000, 1000))
-        os.utime(library, (2000, 2000))
-        self.assertTrue(edits.is_of_its_text(folder, "sum", [folder]))
-        os.utime(folder / "src/lib.rt", (3000, 3000))
-        self.assertFalse(edits.is_of_its_text(folder, "sum", [folder]))
-        (library.parent / "stamp").write_text("sum")
-        self.assertTrue(edits.is_of_its_text(folder, "sum", [folder]))
-        self.assertFalse(edits.is_of_its_text(folder, "another", [folder]))
+    def test_a_library_is_laid_for_what_another_crate_stands_on(self):
+        known = edits.kept.dependencies(self.top)
+        self.assertEqual(edits.top_of(["low", "high"], known), {"high"})
+        self.assertEqual(edits.top_of(["high", "other"], known), {"high", "other"})
+
+    def test_what_the_prover_said_of_each_crate(self):
+        """The words are those of rt's own page on must-fail."""
+        said = {
+            "low": ("rt: must-fail low/a.edit: refused, as it must be: src/lib.rt:3:1: error\nrt: must-fail low/b.edit: NOT REFUSED: the crate is still proved with this edit\n", 1),
+            "high": ("rt: must-fail high/c.edit: refused, as it must be (only because a proof file names what the edit took away, so this says little of the contract: change a value"
+                     " and keep the names): it\nrt: must-fail high/d.edit: BAD EDIT: the prover cannot read the edited text\n", 1),
+            "other": ("rt: no room on the disk\n", 1),
+        }
+        with unittest.mock.patch.object(edits, "said_of", lambda name, room: said[name]), unittest.mock.patch("builtins.print"):
+            tried, failed, weak = edits.judged(list(said), self.top, 2)
+        self.assertEqual((tried, sorted(failed), weak), (4, ["high/d", "low/b", "other (rt must-fail came to no verdict)"], ["high/c"]))
 
 
 if __name__ == "__main__":
