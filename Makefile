@@ -1,7 +1,7 @@
 # Builds and installs aurora. What is built without `make proved` is not proved.
 #
 #     make                        the program, optimised, without proving it: some minutes
-#     make proved                 the gate: everything proved and tested, and the program that was proved: nearly two hours
+#     make proved                 the gate: everything proved and tested, and the program that was proved: README says how long
 #     make install PREFIX=..      program, manual page, tools, completion; the proved program where there is one
 #     make uninstall PREFIX=..    takes away what `make install` put there
 #     make deb                    a Debian package, by dpkg-deb
