@@ -42,8 +42,9 @@ class Pages(unittest.TestCase):
     def test_other_numbers_of_edits_than_there_are(self):
         for name in ("x/must-fail/a", "x/must-fail/b", "y/must-fail/c", "x/edits/d"):
             self.page("", f"crates/{name}.edit")
-        self.assertEqual(list(promises.wrong_numbers(self.page("It tries 3 edits in 2\ncrates, and 1 others stand beside it."))), [])
-        self.assertEqual(len(list(promises.wrong_numbers(self.page("It tries 3 edits in 1 crates, and 2 others stand beside it.")))), 2)
+        self.assertEqual(list(promises.wrong_numbers(self.page("It tries 3 edits in 2\ncrates."))), [])
+        self.assertEqual(list(promises.wrong_numbers(self.page("It tries 3 edits in 1 crates, and it tries 4 edits in 2 crates."))),
+                         [f"docs/A.md tells {said} crates, and the gate tries 3 in 2" for said in ("3 edits in 1", "4 edits in 2")])
         self.assertEqual(list(promises.wrong_numbers(self.page("It tried 9 edits in 9 crates.", "docs/CHANGELOG.md"))), [])
 
 
