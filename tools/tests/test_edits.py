@@ -88,6 +88,12 @@ class Tried(unittest.TestCase):
             tried, failed, weak = edits.judged(list(said), self.top, 2)
         self.assertEqual((tried, sorted(failed), weak), (4, ["high/d", "low/b", "other (rt must-fail came to no verdict)"], ["high/c"]))
 
+    def test_the_last_line_tells_what_was_tried_and_what_came_of_it(self):
+        for judged, last, status in (((2, [], []), "edits: 2 tried, of 1 crates, over commit c: all refused", 0), ((2, ["low/b"], []), "edits: 2 tried, of 1 crates, over commit c: 1 not refused: low/b", 1)):
+            with unittest.mock.patch.object(edits, "judged", lambda *_: judged), unittest.mock.patch("builtins.print") as said:
+                self.assertEqual(edits.try_all(["low"], "commit c", self.top, 1), status)
+            self.assertEqual(said.call_args.args[0], last)
+
 
 if __name__ == "__main__":
     unittest.main()
