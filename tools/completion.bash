@@ -60,7 +60,7 @@ _aurora_tool_words()
 draw: --network --column --seconds
 explain: --program --messages --hints --capacities
 output: --csv --jsonl --sqlite --output --field --tick --origin
-plan: --epoch --full --load
+plan: --epoch --full --tuple --seed --load
 report: --seconds --title
 shard: --on-time --capacities --work --resume --sshlogin --slurm --merge --program --keys
 stream: --time --unit --zone --tick --origin --down --field --decimals --cut --number --missing --true --false --comma --sort --running --form --separator --name --long

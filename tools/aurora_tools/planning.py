@@ -9,6 +9,8 @@ from . import network, run_text
 
 CAPACITY = re.compile(r"[0-9]{1,13},(?:-|[0-9]{1,24})")
 MOST_RATE = 2**48
+MULTIPLIER, WORD = 6364136223846793005, 2**64
+Touched = collections.namedtuple("Touched", "batch level draw until")
 Step = collections.namedtuple("Step", "quotient drop number loss saves")
 Plan = collections.namedtuple("Plan", "epoch counts rates loads steps taken load capacity")
 
@@ -132,6 +134,44 @@ def saved_by(plan):
 def levels(net, plan):
     taken = collections.Counter(it.drop for it in plan.steps[:plan.taken])
     return [50 * taken[at] for at in range(len(net.drops))]
+
+
+def draw(seed, drop, batch):
+    """Returns the draw of a batch: the word of this number of the generator Lcg64Xsh32 for this seed and stream, modulo 1000."""
+    add, factor, increment = 0, 1, 2 * drop + 1
+    multiplier, steps = MULTIPLIER, batch
+    state = ((seed + increment) * MULTIPLIER + increment) % WORD
+    # So many steps as one: it is put together of those of 1, 2, 4 and so on.
+    while steps:
+        if steps % 2:
+            factor, add = factor * multiplier % WORD, (add * multiplier + increment) % WORD
+        increment, multiplier, steps = (multiplier + 1) * increment % WORD, multiplier * multiplier % WORD, steps // 2
+    state = (state * factor + add) % WORD
+    word, turn = (state >> 18 ^ state) >> 27 & 0xFFFFFFFF, state >> 59
+    return ((word >> turn | word << (32 - turn)) & 0xFFFFFFFF) % 1000
+
+
+def keep_of(net, drop):
+    """Returns for how many ticks behind a batch of a drop its tuples are needed."""
+    known, keep = {}, 0
+    for arc in net.below(drop.arcs):
+        net.ways(arc, drop.arcs, known)
+    for arc, (_, taker) in enumerate(net.arcs):
+        if arc in known and taker[0] == "output":
+            lasts, reach = known[arc]
+            keep = max(keep, reach + 1 - min(net.boxes[it]["advance"] - net.boxes[it].get("phase", 0) for it in lasts))
+    return keep
+
+
+def touched(net, plans, seed, number, tick):
+    """Returns the batches of a drop that may need a tuple of this tick: of each its level, its draw, and until which tick it needs tuples where it is kept."""
+    drop = net.drops[number]
+    keep, length, found = keep_of(net, drop), drop.length, []
+    for batch in range(max(0, tick - keep) // length, tick // length + 1):
+        plan = plans.get(batch * length // net.epoch)
+        level, drawn = levels(net, plan)[number] if plan else 0, draw(seed, number, batch)
+        found.append(Touched(batch, level, drawn, None if drawn < level else (batch + 1) * length + keep))
+    return found
 
 
 def line_of(plan):

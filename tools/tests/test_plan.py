@@ -7,6 +7,7 @@ import tempfile
 import unittest
 
 import forked
+from aurora_tools import network, planning
 
 TOP = os.path.dirname(os.path.dirname(os.path.dirname(os.path.abspath(__file__))))
 PROGRAM = os.environ["AURORA"]
@@ -114,6 +115,41 @@ class Plans(unittest.TestCase):
         self.assertIn("25 steps save 83,000,000", said)
         self.run_of("front.toml", "--capacities", "capacity.csv")
         self.assertIn("it isn't that of a full run", self.planned("--full", "front.toml", "capacity.csv", "text").stderr)
+
+    def test_the_fate_of_a_tuple_worked_by_hand(self):
+        # Windows of 10 and above them of 30 start each 10 ticks, so a batch of 10 needs tuples for 9 + 29 + 1 - 10 = 29 ticks more.
+        self.overload()
+        self.run_of("front.toml", "--capacities", "capacity.csv")
+        words = ("front.toml", "capacity.csv", "text")
+        said = self.planned("--tuple", "requests", "108", *words).stdout
+        self.assertIn("tuples of requests at tick 108, in epoch 5:\n  drop 0 at requests, before asked slowing:\n", said)
+        rows = [line.split() for line in said.splitlines()]
+        self.assertEqual([it[0] for it in rows if it[1:2] and it[0].isdigit()], ["7", "8", "9", "10"])
+        self.assertEqual([it[-1] for it in rows if it[0] == "7"], ["108"])
+        self.assertIn("it goes on: batch 7 is kept, and may need it", said)
+        self.assertIn("it is dropped here: all 3 batches are dropped that may need it", self.planned("--tuple", "requests", "109", *words).stdout)
+        self.assertIn("no drop is below", self.planned("--tuple", "tens", "100", *words).stdout)
+        self.assertIn("the streams are requests, checks", self.planned("--tuple", "request", "100", *words).stderr)
+        self.assertIn("isn't drawn with the seed 3: say its --seed", self.planned("--seed", "3", "--tuple", "requests", "100", *words).stderr)
+        self.run_of("front.toml", "--capacities", "capacity.csv", "--seed", "3")
+        self.assertIn("batch 10 is kept", self.planned("--seed", "3", "--tuple", "requests", "100", *words).stdout)
+
+    def test_what_a_batch_needs_with_a_phase(self):
+        # The last window of a batch of 60 starts at its second 50, since windows start each 20 seconds from second 10 on: 39 + 1 - (20 - 10) ticks.
+        phased = HOURS.replace("version = 1", "version = 2").replace("size = 600\nadvance = 60", "size = 40\nadvance = 20\nphase = 10").replace('[[box]]\nname = "mx"', '[[output]]\nname = "x"\nfrom = "av"\n#').split("\n#")[0]
+        self.write("net.toml", phased)
+        net = network.read(f"{self.room}/net.toml")
+        self.assertEqual([(it.stream, it.length, planning.keep_of(net, it)) for it in net.drops], [("bs", 20, 30)])
+
+    def test_draws_are_those_of_the_generator(self):
+        # A step by step generator, for what is put together of steps.
+        for seed, drop in ((0, 0), (2**64 - 1, 3)):
+            increment = 2 * drop + 1
+            state = ((seed + increment) * 6364136223846793005 + increment) % 2**64
+            for batch in range(50):
+                word, turn = (state >> 18 ^ state) >> 27 & 0xFFFFFFFF, state >> 59
+                self.assertEqual(planning.draw(seed, drop, batch), ((word >> turn | word << (32 - turn)) & 0xFFFFFFFF) % 1000)
+                state = (state * 6364136223846793005 + increment) % 2**64
 
     def test_a_text_without_its_end_is_refused(self):
         self.overload()
