@@ -22,7 +22,7 @@ output --tick[what a tick is then s (where none is given), ms, us, ns, or ..]:UN
 output --origin[which time is tick 0 then, as 2026-03-01T000000Z]:TIME: 
 plan *--epoch[shows this epoch alone, but compares all]:E: 
 plan --full[TEXT is that of a run without capacities the plans are those ..]
-plan --tuple[tells instead what becomes of the tuples of a tick in a ..]:STREAM TICK: 
+plan --tuple[tells instead what becomes of the tuples of a tick in a ..]:STREAM: :TICK: 
 plan --seed[the seed of the run, whose draws these are]:N: 
 plan --load[plans nothing it tells which epoch has the greatest load by ..]
 report --seconds[shows ticks as seconds since 1970, in UTC]
