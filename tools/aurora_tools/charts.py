@@ -6,9 +6,11 @@ import math
 
 from .series import pieces
 
-COLOURS = ("#0072b2", "#d55e00", "#009e73", "#cc79a7", "#b58900", "#56b4e9", "#6a3d9a", "#333333")
-WIDTH, LEFT, RIGHT, TOP = 640, 62, 10, 20
+# Each is told from a white and from a black ground.
+COLOURS = ("#1f7fd1", "#d9620a", "#0f9d6b", "#c763a2", "#a88400", "#2f95cf", "#8f63c9", "#7a7a7a")
+WIDTH, LEFT, RIGHT, TOP, LETTER = 960, 66, 12, 20, 6.6
 MOST_LINES, MOST_MULTIPLES, MOST_DOTS, MOST_POINTS = 8, 24, 400, 1500
+KEPT, SAVED, CAPACITY = "#4a7ebb", "#a9c1e0", "#d04040"
 SECONDS = (1, 2, 5, 10, 15, 30, 60, 120, 300, 600, 900, 1800, 3600, 7200, 10800, 21600, 43200, 86400, 172800, 604800, 2629800, 31557600)
 
 
@@ -27,9 +29,19 @@ class Axis:
         """How high the texts below a panel are: a day stands below the clock."""
         return 34 if self.seconds else 20
 
-    def marks(self, most):
-        """Returns where the axis is marked, at most so many times, with a text for each."""
-        span = max(self.high - self.low, 1)
+    def marks(self, width):
+        """Returns where an axis of this width is marked, with a text for each, and room between the texts."""
+        span, most = max(self.high - self.low, 1), 8
+        while most > 1:
+            found = self.marked(span, most)
+            letters = max((len(line) for _, words in found for line in words.split("\n")), default=0)
+            if len(found) < 2 or (found[1][0] - found[0][0]) / span * width >= letters * LETTER + 8:
+                break
+            most -= 1
+        return found
+
+    def marked(self, span, most):
+        """Returns where the axis is marked, at most so many times."""
         if not self.seconds:
             step = max(1, round_step(span / most))
             return [(tick, f"{tick:,}") for tick in range(-(-self.low // step) * step, self.high + 1, step)]
@@ -79,7 +91,7 @@ class Drawn:
     note: str = ""
 
 
-STYLE = """svg text{font:11px system-ui,sans-serif;fill:#333}svg .end{text-anchor:end}svg .mid{text-anchor:middle}svg .name{font-weight:bold}
+STYLE = """svg text{font:12px system-ui,sans-serif;fill:#333}svg .end{text-anchor:end}svg .mid{text-anchor:middle}svg .name{font-weight:bold}
 svg .grid{stroke:#e3e3e3;fill:none}svg .frame{stroke:#999;fill:none}svg .gone{fill:#c8c8c8}svg .line{fill:none;stroke-width:1.6}
 svg .over .line{stroke-dasharray:7 7}
 """
@@ -219,7 +231,7 @@ def drawn(series, gone, axis, colours):
 def one_panel(series, gone, axis, colours, joined=True):
     height = 130
     frame = Frame(axis, LEFT, TOP, WIDTH - LEFT - RIGHT, height, *range_of(values_of(series)))
-    parts = [text(LEFT, TOP - 7, series.field, "name"), frame.ground(gone, axis.marks(7), worth_marks(frame.low, frame.high, 5))]
+    parts = [text(LEFT, TOP - 7, series.field, "name"), frame.ground(gone, axis.marks(frame.width), worth_marks(frame.low, frame.high, 5))]
     dots, entries, seen = sum(len(it) for it in series.lines.values()) <= MOST_DOTS, [], set()
     for name, points in sorted(series.lines.items()):
         colour = colours.setdefault(name, COLOURS[sum(it != "" for it in colours) % len(COLOURS)] if name else COLOURS[0])
@@ -232,7 +244,9 @@ def one_panel(series, gone, axis, colours, joined=True):
 
 def multiples(series, gone, axis):
     """Draws each line in a small panel of its own, all with the same axes, those with most tuples first."""
-    columns, wide, high, across, left = 3, 182, 62, 195, 52
+    columns, high, left = 4, 62, 56
+    across = (WIDTH - left) // columns
+    wide = across - RIGHT
     chosen = sorted(series.lines.items(), key=lambda it: (-len(it[1]), it[0]))[:MOST_MULTIPLES]
     low, top = range_of([value for _, points in chosen for _, value in points if value is not None])
     parts = [text(left, 12, series.field, "name")]
@@ -240,7 +254,7 @@ def multiples(series, gone, axis):
         column, row = at % columns, at // columns
         frame = Frame(axis, left + across * column, 32 + (high + 22) * row, wide, high, low, top)
         levels = [(value, words if column == 0 else "") for value, words in worth_marks(low, top, 3)]
-        parts.append(frame.ground(gone, axis.marks(3), levels, at + columns >= len(chosen)))
+        parts.append(frame.ground(gone, axis.marks(wide), levels, at + columns >= len(chosen)))
         parts.append(text(frame.left, frame.top - 4, name[:30], title=name) + frame.line(points, gone, COLOURS[0], False))
     more, height = len(series.lines) - len(chosen), 32 + (high + 22) * -(-len(chosen) // columns) + axis.room - 18
     said = f"{more:,} further lines, with fewer tuples, aren't drawn." if more else ""
@@ -252,7 +266,7 @@ def events(series, gone, axis):
     names = sorted(sorted(series.lines, key=lambda it: (-len(series.lines[it]), it))[:MOST_MULTIPLES])
     height = 26 * len(names) + 6
     frame = Frame(axis, LEFT, TOP, WIDTH - LEFT - RIGHT, height, 0, len(names))
-    parts = [frame.ground(gone, axis.marks(7), [])]
+    parts = [frame.ground(gone, axis.marks(frame.width), [])]
     for at, name in enumerate(names):
         y = TOP + 22 + 26 * at
         shown = [(tick, 0) for tick, _ in series.lines[name]]
@@ -263,12 +277,21 @@ def events(series, gone, axis):
     return Drawn(TOP + height + axis.room, "".join(parts), "tuples over time", note=f"{more:,} further texts aren't drawn." if more else "")
 
 
-def loads(plans):
+def epochs_marked(first, count, length, seconds, width):
+    """Returns the epochs that are named below their bars, with their texts: where ticks are seconds, the time of some of them."""
+    if seconds:
+        marks = Axis(first * length, (first + count) * length - 1, True).marks(width)
+        return [(tick / length - 0.5, words) for tick, words in marks]
+    every = max(1, math.ceil((len(f"{first + count:,}") * LETTER + 8) * count / width))
+    return [(epoch, f"{epoch:,}") for epoch in range(first, first + count, every)]
+
+
+def loads(plans, length, seconds):
     """Draws for each epoch a bar of its load: what the plan leaves of it on average and what it saves, with a line at the capacity."""
     most = max(max(plan.load, plan.capacity) for plan in plans) or 1
     first, count, tall = plans[0].epoch, plans[-1].epoch - plans[0].epoch + 1, 150
     room, floor = (WIDTH - LEFT - RIGHT) / count, TOP + tall
-    wide, every = max(min(room * 0.7, 50), 0.5), max(1, -(-count // 14))
+    wide = max(min(room * 0.7, 50), 0.5)
     parts = [level(LEFT, floor - value / most * tall, WIDTH - LEFT - RIGHT, words) for value, words in worth_marks(0, most, 5)]
     for plan in plans:
         x, left = LEFT + (plan.epoch - first + 0.5) * room, max(plan.load - plan.saved, 0)
@@ -277,6 +300,7 @@ def loads(plans):
             high = value / most * tall
             parts.append(bar(kind, x - wide / 2, floor - high, wide, high, title))
         parts.append(f'<path class="capacity" d="M{x - wide / 2 - 3:.1f} {floor - plan.capacity / most * tall:.1f}h{wide + 6:.1f}"/>')
-        parts += [text(x, floor + 14, f"{plan.epoch:,}", "mid")] if (plan.epoch - first) % every == 0 else []
-    shown = picture(floor + 22, "".join(parts) + text(LEFT, TOP - 7, "load by epoch", "name"), "load and capacity by epoch")
-    return shown + legend([("load that the plan leaves, on average", "#4a7ebb"), ("planned saving", "#c9d9ee"), ("capacity", "#c03030")])
+    for epoch, words in epochs_marked(first, count, length, seconds, WIDTH - LEFT - RIGHT):
+        parts += [text(LEFT + (epoch - first + 0.5) * room, floor + 14 + 12 * line, word, "mid") for line, word in enumerate(words.split("\n"))]
+    shown = picture(floor + (34 if seconds else 22), "".join(parts) + text(LEFT, TOP - 7, "load by epoch", "name"), "load and capacity by epoch")
+    return shown + legend([("load that the plan leaves, on average", KEPT), ("planned saving", SAVED), ("capacity", CAPACITY)])

@@ -5,23 +5,50 @@ from . import charts, graph, run_text, series
 from .finding import counted, listed
 
 STYLE = """
-:root{color-scheme:light}body{font:15px/1.45 system-ui,sans-serif;margin:0 auto;padding:1em 1.2em 3em;max-width:1120px;color:#222;background:#fff}
+:root{color-scheme:light dark}body{font:15px/1.45 system-ui,sans-serif;margin:0 auto;padding:1em 1.2em 3em;max-width:1280px;color:#222;background:#fff}
 h1{font-size:1.5em}h2{font-size:1.2em;margin:1.8em 0 .4em;border-bottom:1px solid #ccc}h3{font-size:1em;margin:1.2em 0 .2em}
-.wide{overflow-x:auto}.wide svg{display:block;width:100%;max-width:880px;height:auto}.network svg{max-width:100%;width:auto}
+.wide{overflow-x:auto}.wide svg{display:block;width:100%;min-width:600px;height:auto}.network svg{min-width:0;width:auto;max-width:100%}
 .legend{margin:0 0 .6em;padding-left:min(5.5em,8%);font-size:.88em}.legend span{margin-right:1.1em;white-space:nowrap}
 .legend i{display:inline-block;width:1.3em;height:.3em;margin-right:.4em;vertical-align:middle}
 table{border-collapse:collapse;font-size:.93em;margin:.5em 0}th,td{border:1px solid #ccc;padding:.15em .6em;text-align:right;white-space:nowrap}
 th{background:#f3f3f3}th:first-child,td:first-child{text-align:left}.note{color:#555;font-size:.93em}
 .state{padding:.5em .8em;border-left:5px solid}.good{background:#e9f6e9;border-color:#3a8f3a}.bad{background:#fdeaea;border-color:#c03030}
-svg .kept{fill:#4a7ebb}svg .saved{fill:#c9d9ee}svg .capacity{stroke:#c03030;stroke-width:2}
+svg .kept{fill:KEPT}svg .saved{fill:SAVED}svg .capacity{stroke:CAPACITY;stroke-width:2}
+"""
+# Graphviz made the boxes for texts of this size.
+NETWORK = """.network svg text{font:10.5px sans-serif}
+"""
+DARK = """@media(prefers-color-scheme:dark){body{color:#ddd;background:#15171a}h2{border-color:#444}th,td{border-color:#444}th{background:#24272b}.note{color:#aaa}
+.good{background:#16301a}.bad{background:#3d1a1a}svg text,.network svg text{fill:#ccc}svg .grid{stroke:#34383d}svg .frame{stroke:#777}svg .gone{fill:#4a4e54}
+.network [fill="#ffffff"]{fill:#24272b}.network [fill="#e8f1fa"]{fill:#1c3145}.network [fill="#eaf6ea"]{fill:#1b3520}.network [fill="#fbe0dc"]{fill:#552a25}
+.network [stroke="#555555"]{stroke:#999}}
 """
 MOST_SPANS, MOST_PLANS = 12, 300
+
+
+def style():
+    """Returns how the page looks, on a light ground and on a dark one."""
+    return STYLE.replace("KEPT", charts.KEPT).replace("SAVED", charts.SAVED).replace("CAPACITY", charts.CAPACITY) + charts.STYLE + NETWORK + DARK
 
 
 def table(heads, rows):
     def cells(tag, row):
         return "".join(f"<{tag}>{html.escape(str(it))}</{tag}>" for it in row)
     return f'<div class="wide"><table><tr>{cells("th", heads)}</tr>' + "".join(f"<tr>{cells('td', row)}</tr>" for row in rows) + "</table></div>"
+
+
+def spans_told(axis, spans):
+    """Returns spans of ticks in words; where ticks are seconds each day is named once."""
+    told, day = [], None
+    for low, high in spans:
+        ends = [axis.text(low)] if low == high - 1 else [axis.text(low), axis.text(high - 1)]
+        shown = []
+        for end in ends:
+            date, _, clock = end.partition(" ")
+            shown.append(clock if clock and date == day else end)
+            day = date if clock else None
+        told.append(" to ".join(shown))
+    return ", ".join(told)
 
 
 def state(network, run):
@@ -47,9 +74,8 @@ def output_part(network, run, number, axis, colours):
     """Returns what the page has of an output: how much is shown, what was left out, a panel for each of its fields."""
     output, drop = network.outputs[number], run_text.drop_above(network, number)
     rows, gone = run.shown(output), run_text.missing(network, run, number)
-    ends = [axis.text(low) if low == high - 1 else f"{axis.text(low)} to {axis.text(high - 1)}" for low, high in gone[:MOST_SPANS]]
     more = f", and {len(gone) - MOST_SPANS:,} spans more" if len(gone) > MOST_SPANS else ""
-    left_out = f"Left out by drop {drop}: the windows that start from {', '.join(ends)}{more}." if gone else ""
+    left_out = f"Left out by drop {drop}: the windows that start from {spans_told(axis, gone[:MOST_SPANS])}{more}." if gone else ""
     if not gone and run.whole:
         left_out = "Nothing of it was left out."
     stream, weight = f"the stream <code>{html.escape(output['from'])}</code>", f"weight {output.get('weight', 1):,}"
@@ -75,7 +101,7 @@ def plans_part(network, run, axis):
     heads = ["epoch", "from tick", "load", "capacity", "planned saving", "verdict"]
     heads += [f"drop {number}, at {drop.stream}" for number, drop in enumerate(network.drops)]
     more = charts.note(f"{len(run.plans) - MOST_PLANS:,} plans more aren't listed.") if len(run.plans) > MOST_PLANS else ""
-    return ("<h2>Plans</h2>" + charts.loads(run.plans) + table(heads, rows) + more +
+    return ("<h2>Plans</h2>" + charts.loads(run.plans, network.epoch, axis.seconds) + table(heads, rows) + more +
             '<p class="note">A load is estimated from the epoch before. An epoch that isn\'t here had no plan that takes a step. Of each drop stands '
             "how many of the batches that begin in the epoch were left out; a level is the chance of each of them in permille, so of few batches "
             "more or fewer go.</p>")
@@ -92,7 +118,7 @@ def made(network, run, title, seconds):
     """Returns the page."""
     axis, picture = axis_of(network, run, seconds), graph.drawn(network, run)
     parts = ['<!doctype html><html lang="en"><meta charset="utf-8"><meta name="viewport" content="width=device-width">']
-    parts.append(f"<title>{html.escape(title)}</title><style>{STYLE}{charts.STYLE}</style><h1>{html.escape(title)}</h1>{state(network, run)}<h2>Network</h2>")
+    parts.append(f"<title>{html.escape(title)}</title><style>{style()}</style><h1>{html.escape(title)}</h1>{state(network, run)}<h2>Network</h2>")
     parts.append(f'<div class="wide network">{picture}</div>' if picture else "<p>Not drawn: Graphviz wasn't there.</p>")
     colours = {}
     parts.append("<h2>Outputs</h2>")

@@ -7,7 +7,7 @@ import unittest
 import xml.etree.ElementTree
 
 import forked
-from aurora_tools import charts, network, run_text, series
+from aurora_tools import charts, network, page, run_text, series
 
 TOOLS = os.path.dirname(os.path.dirname(os.path.abspath(__file__)))
 FRONT = f"{TOOLS}/../examples/overload/front.toml"
@@ -138,8 +138,23 @@ class Charts(unittest.TestCase):
         self.assertLessEqual({(0, 0), (1234, 5), (4321, -5), (4999, 1)}, set(kept))
 
     def test_marks_of_an_axis(self):
-        self.assertEqual([tick for tick, _ in charts.Axis(3, 98, False).marks(5)], [20, 40, 60, 80])
-        self.assertEqual(charts.Axis(1704066000, 1704073200, True).marks(3), [(1704067200, "00:00\n2024-01-01"), (1704070800, "01:00")])
+        self.assertEqual([tick for tick, _ in charts.Axis(3, 98, False).marked(95, 5)], [20, 40, 60, 80])
+        self.assertEqual(charts.Axis(1704066000, 1704073200, True).marks(150), [(1704067200, "00:00\n2024-01-01"), (1704070800, "01:00")])
+
+    def test_marks_leave_room_between_their_texts(self):
+        for axis in (charts.Axis(1704066000, 1704066000 + days * 86400, True) for days in (1, 2, 5, 40, 4000)):
+            for width in (150, 214, 880):
+                marks = axis.marks(width)
+                self.assertTrue(marks)
+                places = [(tick - axis.low) / (axis.high - axis.low) * width for tick, _ in marks]
+                letters = max(len(line) for _, words in marks for line in words.split("\n"))
+                self.assertTrue(all(after - now >= letters * 6 for now, after in zip(places, places[1:])), (axis, width, marks))
+
+    def test_spans_name_each_day_once(self):
+        axis, ticks = charts.Axis(0, 200_000, True), charts.Axis(0, 200_000, False)
+        self.assertEqual(page.spans_told(axis, [(60, 120), (180, 181), (86400, 90000)]),
+                         "1970-01-01 00:01:00 to 00:01:59, 00:03:00, 1970-01-02 00:00:00 to 00:59:59")
+        self.assertEqual(page.spans_told(ticks, [(60, 120), (180, 181)]), "60 to 119, 180")
 
     def test_more_than_eight_lines_have_panels_of_their_own(self):
         lines = {f"host{at}": [(0, 1), (10, 2)] for at in range(9)}
@@ -175,7 +190,7 @@ class Page(Files):
         self.assertNotRegex(page, r"<script|href|src=|http://(?!www\.w3\.org)|@import")
 
     def test_seconds_are_shown_in_utc(self):
-        self.assertIn("1970-01-01 00:01:20 to 1970-01-01 00:02:09", self.report(None, "--seconds")[1])
+        self.assertIn("1970-01-01 00:01:20 to 00:02:09", self.report(None, "--seconds")[1])
 
     def test_a_run_that_broke_off_is_said(self):
         self.assertIn("didn't come to its end", self.report("asked,0,cart,1,48\n")[1])
