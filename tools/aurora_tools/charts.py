@@ -171,7 +171,10 @@ class Frame:
         for tick, words in marks_of_time:
             parts.append(f'<path class="grid" d="M{self.x(tick):.1f} {self.top}v{self.height}"/>')
             for line, word in enumerate(words.split("\n") if named else []):
-                parts.append(text(self.x(tick), self.top + self.height + 14 + 12 * line, word, "mid"))
+                # A text at an end of the axis goes no further out than the panel.
+                half = len(word) * LETTER / 2 - 4
+                x = min(max(self.x(tick), self.left + half), self.left + self.width - half)
+                parts.append(text(x, self.top + self.height + 14 + 12 * line, word, "mid"))
         return "".join(parts) + f'<rect class="frame" x="{self.left}" y="{self.top}" width="{self.width}" height="{self.height}"/>'
 
     def line(self, points, gone, colour, dots, joined=True):

@@ -9,6 +9,7 @@ from .places import line_and_column
 
 KEYS_OF_EXPRESSIONS = {"filter": "where", "map": "set", "join": "on"}
 ORDERS = ("<", "<=", ">", ">=")
+SCALE = re.compile(r"# ([a-z][a-z0-9_]*): .* times (10+)")
 
 
 def at(net, words, remedy, part, number, *way):
@@ -54,6 +55,34 @@ def unused_ports(net, number, box, leading):
         if not is_taken and not (len(wheres) == 1 and taken[-1]):
             words = f"`{box['name']}.{port + 1}` is taken by nothing: what the predicate `{wheres[port]}` takes is left out"
             yield at(net, box_named(net, number) + words, "That may be meant: a port may be for what shall go away.", "box", number, "where", port)
+
+
+def scales_of(net):
+    """Returns of each source which fields are told to be decimals times a power of ten, in the remarks before its table as aurora-stream writes them."""
+    lines, found = net.text.split("\n"), []
+    for number in range(len(net.sources)):
+        line, scales = line_and_column(net.text, net.places.offset("source", number))[0] - 2, {}
+        while line >= 0 and lines[line].startswith("#"):
+            if told := SCALE.fullmatch(lines[line]):
+                scales[told[1]] = int(told[2])
+            line -= 1
+        found.append(scales)
+    return found
+
+
+def scales(net):
+    """Yields fields of one name that have another scale in one source than in another."""
+    seen = {}
+    for number, told in enumerate(scales_of(net)):
+        source = net.sources[number]
+        for field, kind in (it.split(":") for it in source["fields"]):
+            scale = told.get(field, 1)
+            first, before = seen.setdefault(field, (number, scale)) if kind == "int" else (number, scale)
+            if scale != before:
+                other, words = net.sources[first]["name"], [f"is times {it:,}" if it > 1 else "has no scale" for it in (scale, before)]
+                yield at(net, f"source {number}, `{source['name']}`: `{field}` {words[0]}, and in `{other}` it {words[1]}",
+                         f"Where the two meet they are no numbers of one unit: aurora-stream --decimals COLUMN={len(str(max(scale, before))) - 1} makes both tables alike.",
+                         "source", number, "fields")
 
 
 def expressions(net):
@@ -190,6 +219,7 @@ def hints(net, run, capacities):
     """Yields all hints on a network, on the text of its run where there is one, and on capacities."""
     yield from unused(net)
     yield from questions(net)
+    yield from scales(net)
     if run:
         yield from gave_nothing(net, run)
     if capacities is not None:

@@ -59,6 +59,8 @@ CASES = [
     ('where = ["v > 10"]', "where = [\"k > '10'\"]", S, T, None, "where", "byte by byte"),
     ('where = ["v > 10"]', 'where = ["v > 1000"]', S, T, None, "where", "`v > 1000` took none of the 4 tuples"),
     ('in = ["f.1"]', 'in = ["s"]', S, T, None, "[[box]]", "box 0, `f`, a filter: no output has anything of it"),
+    ('[[source]]\nname = "t"', '# v: Volume times 100\n[[source]]\nname = "t"', S, T, None, "fields", "source 1, `t`: `v` is times 100, and in `s` it has no scale"),
+    ('version = 1\nepoch = 10\n', 'version = 1\nepoch = 10\n# v: price times 10000\n', S, T, None, "fields", "`v` has no scale, and in `s` it is times 10,000"),
     ('in = ["s", "t"]', 'in = ["s", "s"]', S, T, None, "[[source]]", "source 1, `t`: no output has anything of it"),
     ("", "", S, T.replace("10", "100010"), None, "[[box]]", "none is within 5 of another. Have they one unit, and one origin?"),
     ('[[output]]\nname = "o"\nfrom = "w"', BSORT, S, T, None, "slack", "left out 1 of 4 tuples"),

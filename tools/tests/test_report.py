@@ -257,8 +257,11 @@ class Picture(Files):
             status, said, drawn = self.draw(self.front(), *words)
             self.assertEqual((status, drawn), (1, None))
             self.assertIn(why, said)
-        self.assertIn("ends neither in .svg nor in .png", self.draw(self.front(), picture="x.pdf")[1])
-        self.assertIn("librsvg2-bin", self.draw(self.front(), picture="x.png", path=self.room.name)[1])
+        self.assertIn("x.gif ends neither in .svg nor in .png or .pdf", self.draw(self.front(), picture="x.gif")[1])
+        for name in ("x.png", "x.pdf"):
+            status, said, drawn = self.draw(self.front(), picture=name, path=self.room.name)
+            self.assertEqual((status, drawn), (1, None))
+            self.assertIn(f"{name}: rsvg-convert, which makes a {name[1:]}, isn't there; Debian's package librsvg2-bin has it", said)
         self.assertIn("no line of an output", self.draw("@end\n")[1])
         self.assertIn("asked has a line whose `asked` isn't of the kind int", self.draw("asked,0,cart,x,48\n@end\n")[1])
 
@@ -273,6 +276,7 @@ class Picture(Files):
     @unittest.skipUnless(shutil.which("rsvg-convert"), "rsvg-convert isn't installed")
     def test_a_picture_of_points(self):
         self.assertTrue(self.draw(self.front(), picture="x.png")[2].startswith(b"\x89PNG"))
+        self.assertTrue(self.draw(self.front(), picture="x.pdf")[2].startswith(b"%PDF"))
 
 
 if __name__ == "__main__":
