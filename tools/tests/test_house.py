@@ -70,6 +70,7 @@ class Found(unittest.TestCase):
     def test_a_definition_that_moved_to_the_proofs(self):
         self.write("crates/high/specs/Words.antt", "abbrev pub wide : ℕ → ℕ\nwide n = 1\n")
         self.write("crates/high/proofs/Sums.antt", "abbrev double : ℕ → ℕ\ndouble m = m + m\n")
+        self.write("crates/high/proofs/g/Proof.antt", "abbrev own : ℕ → ℕ\nown m = m + m\n")
         self.assertEqual(list(self.house.same_definitions(self.house.specs + self.house.helpers))[0], "twice (crates/low/specs/Words.antt), double (crates/high/proofs/Sums.antt)")
 
     def test_a_type_that_two_crates_have(self):
