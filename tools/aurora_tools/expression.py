@@ -6,6 +6,8 @@ TOKEN = re.compile(r"'(?:[^']|'')*'|[a-z][a-z0-9_]*|[0-9]+|<>|<=|>=|[()+\-*/%=<>
 KEYWORDS = ("and", "or", "not", "is", "null", "true", "false", "time")
 COMPARISONS = ("=", "<>", "<", "<=", ">", ">=")
 LEVELS = (("or",), ("and",), ("not",), COMPARISONS, ("+", "-"), ("*", "/", "%"))
+OPERATORS = ("and", "or", "not", "is")
+MOST_NUMBER, MOST_TEXT, MOST_OPEN = (1 << 63) - 1, 255, 64
 
 
 @dataclasses.dataclass
@@ -39,17 +41,33 @@ def tokens(text):
 
 
 class Parser:
-    """Reads the tree of an expression that the program has accepted."""
+    """Reads the tree of an expression. Where the program reads none it raises ValueError."""
 
     def __init__(self, text):
-        self.tokens, self.at = [*tokens(text), ("", len(text))], 0
+        found = tokens(text)
+        end = found[-1][1] + len(found[-1][0]) if found else 0
+        if text[end:].strip(" "):
+            raise ValueError("no token begins here")
+        self.tokens, self.at, self.open = [*found, ("", len(text))], 0, 0
 
     def next(self):
         return self.tokens[self.at][0]
 
-    def take(self):
+    def take(self, *words):
+        """Takes the next token, which must be one of these words where any are given."""
+        if words and self.next() not in words:
+            raise ValueError("another token must stand here")
         self.at += 1
         return self.tokens[self.at - 1]
+
+    def within(self, depth):
+        """Reads what stands behind a parenthesis, a `not` or a sign."""
+        self.open += 1
+        if self.open > MOST_OPEN:
+            raise ValueError("too many are open")
+        inner = self.operand() if depth is None else self.level(depth)
+        self.open -= 1
+        return inner
 
     def level(self, depth):
         """Reads an expression whose operators are of this level or bind more tightly."""
@@ -68,30 +86,44 @@ class Parser:
 
     def prefixed(self, word, depth):
         _, begin = self.take()
-        inner = self.level(depth)
+        inner = self.within(depth)
         return Node(word, [inner], begin, inner.end)
 
     def asked_for_null(self, node):
-        word, at = self.take()
-        while self.next() in ("not", "null"):
-            word, at = self.take()
+        self.take("is")
+        if self.next() == "not":
+            self.take()
+        word, at = self.take("null")
         return Node("is null", [node], node.begin, at + len(word))
 
     def operand(self):
-        if self.next() == "-":
-            _, begin = self.take()
-            inner = self.operand()
-            return Node("-", [inner], begin, inner.end)
         word, begin = self.take()
+        if word == "-":
+            inner = self.within(None)
+            return Node("-", [inner], begin, inner.end)
         if word == "(":
-            inner = self.level(0)
-            _, close = self.take()
+            inner = self.within(0)
+            _, close = self.take(")")
             return Node(inner.word, inner.sides, begin, close + 1)
+        if not is_leaf(word):
+            raise ValueError("a value must stand here")
         return Node(word, [], begin, begin + len(word))
 
 
+def is_leaf(word):
+    """Says whether a token is a value or a name."""
+    if word[:1].isdigit():
+        return len(word.lstrip("0")) < 20 and int(word) <= MOST_NUMBER
+    if word[:1] == "'":
+        return 1 <= len(word[1:-1].replace("''", "'").encode()) <= MOST_TEXT
+    return word[:1].isalpha() and word not in OPERATORS
+
+
 def tree(text):
-    return Parser(text).level(0)
+    parser = Parser(text)
+    node = parser.level(0)
+    parser.take("")
+    return node
 
 
 def kind_of(node, fields, misfits, text):

@@ -26,6 +26,8 @@ REQUIRED = {"top": ("version", "source", "output"), "source": ("name", "file", "
 OPTIONAL = {"top": ("epoch", "batch", "box"), "source": (), "box": ("cost", "selectivity"), "output": ("weight", "graph")}
 MOST_TICKS_OF_A_BATCH = 1 << 34
 MOST_BATCHES_OF_A_REACH = 4096
+MOST_BYTES = 1_048_576
+BELOW_A_DROP = ("filter", "map", "union", "aggregate")
 
 
 class Unreadable(Exception):
@@ -65,7 +67,9 @@ class Network:
     def __init__(self, path):
         self.path = path
         with open(path, "rb") as file:
-            self.bytes = file.read()
+            self.bytes = file.read(MOST_BYTES + 1)
+        if len(self.bytes) > MOST_BYTES:
+            raise Unreadable(f"{path} has more than {MOST_BYTES:,} bytes, and no network has")
         self.text = self.bytes.decode("utf-8-sig", errors="replace").replace("\r\n", "\n")
         self.places = Places(self.text)
         self.table, self.fault, self.known_fields = {}, None, {}
@@ -142,6 +146,30 @@ class Network:
         return gives, takes
 
     @functools.cached_property
+    def reached_of(self):
+        """The arcs that are reached from each arc, and itself, as the bits of a number."""
+        gives, of_boxes = self.arcs_of[0], {}
+
+        def of_box(number):
+            if number not in of_boxes:
+                of_boxes[number] = 0
+                for arc in gives[number]:
+                    of_boxes[number] |= of_arc(arc)
+            return of_boxes[number]
+
+        def of_arc(arc):
+            kind, number = self.arcs[arc][1]
+            return 1 << arc | (of_box(number) if kind == "box" else 0)
+
+        return [of_arc(arc) for arc in range(len(self.arcs))]
+
+    @functools.cached_property
+    def taken_by(self):
+        """The arcs that each box takes, and those that no drop may stand above, as the bits of numbers."""
+        bits = [sum(1 << arc for arc in set(self.arcs_of[1][number])) for number in range(len(self.boxes))]
+        return bits, sum(it for it, box in zip(bits, self.boxes) if box["kind"] not in BELOW_A_DROP)
+
+    @functools.cached_property
     def drops(self):
         """The drop points, by their numbers."""
         own = {stream: [] for stream in self.givers}
@@ -152,51 +180,45 @@ class Network:
             places += [(stream, arcs)] if arcs else []
             places += [(stream, [arc]) for arc in arcs] if len(arcs) > 1 else []
         found = [(drop, reached) for drop, reached in (self.candidate(*it) for it in places) if drop]
-        return [it for it, _ in found if not any(it.arcs != other.arcs and it.arcs <= reached for other, reached in found)]
-
-    def below(self, own):
-        """Returns the arcs that are reached from these, and themselves."""
-        reached, waiting, gives = set(own), list(own), self.arcs_of[0]
-        while waiting:
-            taker, number = self.arcs[waiting.pop()][1]
-            more = set(gives[number]) - reached if taker == "box" else ()
-            reached.update(more)
-            waiting += more
-        return reached
+        bits = [sum(1 << arc for arc in drop.arcs) for drop, _ in found]
+        return [drop for (drop, _), it in zip(found, bits) if not any(it != other and not it & ~reached for other, (_, reached) in zip(bits, found))]
 
     def candidate(self, stream, own):
-        """Returns the drop that may stand at these arcs of a stream, or None, and the arcs that it reaches."""
-        reached, takes = self.below(own), self.arcs_of[1]
-        boxes = sorted({number for kind, number in (self.arcs[arc][1] for arc in reached) if kind == "box"})
-        ends = [arc for arc in reached if self.arcs[arc][1][0] == "output"]
-        outputs = sorted(self.arcs[arc][1][1] for arc in ends)
-        kinds = {self.boxes[it]["kind"] for it in boxes}
-        if not outputs or kinds - {"filter", "map", "union", "aggregate"} or any(not reached.issuperset(takes[it]) for it in boxes):
+        """Returns the drop that may stand at these arcs of a stream, or None, and the bits of the arcs that it reaches."""
+        reached, (taken, barred) = 0, self.taken_by
+        for arc in own:
+            reached |= self.reached_of[arc]
+        if reached & barred:
             return None, reached
-        known = {}
-        for arc in reached:
-            self.ways(arc, frozenset(own), known)
-        last = set().union(*(known[arc][0] for arc in ends))
+        boxes = [number for number, bits in enumerate(taken) if bits & reached]
+        ends = [arc for arc, (_, (kind, _)) in enumerate(self.arcs) if kind == "output" and reached >> arc & 1]
+        if not ends or any(taken[it] & ~reached for it in boxes):
+            return None, reached
+        known = self.ways(set(own), boxes)
+        of_arc = {arc: (frozenset([None]), 0) if arc in own else known[self.givers[self.arcs[arc][0]]] for arc in ends}
+        last = frozenset().union(*(it for it, _ in of_arc.values()))
         if None in last:
             return None, reached
         length = self.table.get("batch", 1) * math.lcm(*(self.boxes[it]["advance"] for it in last))
-        reach = max(known[arc][1] for arc in reached)
-        return Drop(stream, frozenset(own), boxes, outputs, length, reach), reached
+        reach = max(it for _, it in [*of_arc.values(), *known.values()])
+        return Drop(stream, frozenset(own), boxes, sorted(self.arcs[arc][1][1] for arc in ends), length, reach), reached
 
-    def ways(self, arc, own, known):
-        """Notes of an arc the last Aggregates on the ways to it from a place, None for a way without one, and how far back they reach."""
-        if arc in own:
-            known[arc] = ({None}, 0)
-        if arc in known:
-            return known[arc]
-        number = self.givers[self.arcs[arc][0]]
-        if ("box", number) not in known:
-            before = [self.ways(into, own, known) for into in self.arcs_of[1][number]]
-            last, reach = set().union(*(it for it, _ in before)), max(it for _, it in before)
-            box = self.boxes[number]
-            known["box", number] = ({number}, reach + box["size"] - 1) if box["kind"] == "aggregate" else (last, reach)
-        known[arc] = known["box", number]
-        return known[arc]
+    def ways(self, own, boxes):
+        """Returns of each box the last Aggregates on the ways to its streams from a place, None for a way without one, and how far back they reach."""
+        known, below, takes = {}, set(boxes), self.arcs_of[1]
+
+        def of_box(number):
+            if number not in known:
+                givers = {None if arc in own else self.givers[self.arcs[arc][0]] for arc in takes[number]}
+                before = [(frozenset([None]), 0) if it is None else of_box(it) for it in givers]
+                last, reach = frozenset().union(*(it for it, _ in before)), max(it for _, it in before)
+                box = self.boxes[number]
+                known[number] = (frozenset([number]), reach + box["size"] - 1) if box["kind"] == "aggregate" else (last, reach)
+            return known[number]
+
+        for number in below:
+            of_box(number)
+        return known
 
 
 def paired(left, right):
@@ -221,23 +243,16 @@ def answers(give, fields):
 
 
 def read(path):
-    """Reads the network file of a run; raises Unreadable where it is none that the program accepts, as far as is seen here."""
+    """Reads the network file of a run; raises Unreadable where it is none that the program accepts, with the rule that it breaks."""
+    from .accepting import refusal
     try:
         network = Network(path)
-        if network.fault:
-            raise Unreadable(f"{path}: {network.fault}")
-        for part in (network.sources, network.boxes, network.outputs):
-            if not all(is_name(it["name"]) for it in part):
-                raise Unreadable(f"{path} is no network that aurora runs: a name is none (`aurora run {path}` says which)")
-        for stream in network.givers:
-            network.fields(stream)
-        _ = network.drops
-        if not network.outputs:
-            raise Unreadable(f"{path} has no output: it is no network that aurora runs")
-        if any(stream not in network.givers for stream, _ in network.arcs):
-            raise Unreadable(f"{path} has an output or box that takes no stream of it")
-        return network
+        broken = refusal(network)
     except (KeyError, IndexError, TypeError, ValueError, AttributeError, StopIteration, RecursionError) as fault:
         raise Unreadable(f"{path} is no network that aurora runs (`aurora run {path}` says why)") from fault
     except OSError as fault:
         raise Unreadable(f"{path}: {fault.strerror}") from fault
+    if broken:
+        why = f": {network.fault}" if network.fault else ""
+        raise Unreadable(f"{path}: aurora refuses this network: {' '.join(map(str, broken))}{why} (`aurora-explain {path}` tells more)")
+    return network
