@@ -4,6 +4,7 @@ import datetime
 import html
 import math
 
+from .front import blanked
 from .series import pieces
 
 # Each is told from a white and from a black ground.
@@ -99,7 +100,7 @@ svg .over .line{stroke-dasharray:7 7}
 
 def escaped(words):
     """Returns words for HTML and SVG, what can't be shown as a blank: XML has no such characters."""
-    return html.escape("".join(it if it.isprintable() else " " for it in words))
+    return html.escape(blanked(words))
 
 
 def text(x, y, words, kind="", title=""):

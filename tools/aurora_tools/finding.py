@@ -2,7 +2,7 @@
 import dataclasses
 import difflib
 
-from .front import clean
+from .front import blanked, clean
 
 WIDTH = 100
 
@@ -31,7 +31,7 @@ class Finding:
 
 def window(text, column):
     """Returns what of a long line is shown round a column, and the column in it. A tab, and what can't be shown, is one blank."""
-    text = "".join(it if it.isprintable() else " " for it in text)
+    text = blanked(text)
     begin = max(0, (column or 0) - WIDTH // 2) if len(text) > WIDTH else 0
     shown = ("..." if begin else "") + text[begin:begin + WIDTH] + ("..." if len(text) > begin + WIDTH else "")
     return shown, None if column is None else column - begin + (3 if begin else 0)

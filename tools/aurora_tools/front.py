@@ -85,6 +85,10 @@ def complaint(name, why):
     sys.exit(2)
 
 
+# Until a tool runs Ctrl-C ends it at once, and not somewhere in what is imported.
+signal.signal(signal.SIGINT, signal.SIG_DFL)
+
+
 def parser(name, about):
     """Returns a parser of words whose help is the text of a tool, and whose complaint is one line."""
     made = argparse.ArgumentParser(prog=name, description=about, usage=argparse.SUPPRESS, add_help=False, allow_abbrev=False)
@@ -100,8 +104,23 @@ def parsed(made):
 
 
 def clean(text):
-    """Returns a text as it may go to a terminal: what isn't printable stands as its code."""
-    return "".join(it if it.isprintable() or it == "\n" else f"\\x{ord(it):02x}" if ord(it) < 256 else f"\\u{ord(it):04x}" for it in str(text))
+    """Returns a text of data as it may go to a terminal: what isn't printable, line feeds and marks of direction too, stands as its code."""
+    return "".join(it if it.isprintable() else code_of(ord(it)) for it in str(text))
+
+
+def code_of(number):
+    return f"\\x{number:02x}" if number < 256 else f"\\u{number:04x}" if number < 1 << 16 else f"\\U{number:08x}"
+
+
+def blanked(text):
+    """Returns a text for XML and for a line of which the columns count: what isn't printable is a blank."""
+    return "".join(it if it.isprintable() else " " for it in text)
+
+
+def stop(name, why):
+    """Ends a tool with a line."""
+    print(f"{name}: {clean(why)}", file=sys.stderr)
+    sys.exit(1)
 
 
 def said(why):
@@ -114,7 +133,7 @@ def said(why):
 
 
 def run(name, main, *faults):
-    """Runs a tool. These faults end it with a line; a reader that went away, and Ctrl-C, end it without a word, as they end any program."""
+    """Runs a tool. These faults, and Ctrl-C, end it with a line; a reader that went away ends it without a word, as it ends any program."""
     # One that is closed is opened on nothing, so that no file that is opened later is taken for it.
     for number, stream in ((1, "stdout"), (2, "stderr")):
         if getattr(sys, stream) is None:
@@ -126,6 +145,7 @@ def run(name, main, *faults):
     for sign in (signal.SIGTERM, signal.SIGHUP):
         signal.signal(sign, lambda number, _: sys.exit(128 + number))
     try:
+        signal.signal(signal.SIGINT, signal.default_int_handler)
         try:
             status = main()
             sys.stdout.flush()
@@ -140,19 +160,37 @@ def run(name, main, *faults):
         sys.exit(status)
     except KeyboardInterrupt:
         signal.signal(signal.SIGINT, signal.SIG_DFL)
+        print(f"{name}: interrupted", file=sys.stderr, flush=True)
         os.kill(os.getpid(), signal.SIGINT)
+
+
+def state_of(path):
+    """Returns what the system knows of a file, of standard input where it is `-`; None where it isn't there."""
+    try:
+        return os.fstat(0) if path == "-" else os.stat(path)
+    except (OSError, ValueError):
+        return None
 
 
 def one_of(path, others):
     """Returns which of these files a path is, by whatever name, or None."""
-    return next((it for it in others if os.path.exists(path) and os.path.exists(it) and os.path.samefile(path, it)), None)
+    own = os.stat(path) if os.path.exists(path) else None
+    return next((it for it in others if own and (other := state_of(it)) and os.path.samestat(own, other)), None)
+
+
+def look_at_input(file, path):
+    """Stops where what is opened to be read is a device that has no end, as /dev/zero."""
+    state, nothing = os.fstat(file.fileno()), state_of(os.devnull)
+    plain = not (stat.S_ISBLK(state.st_mode) or stat.S_ISCHR(state.st_mode)) or nothing and state.st_rdev == nothing.st_rdev
+    if not plain and not os.isatty(file.fileno()):
+        raise OSError(f"{path} is a device: a file or a pipe is read")
 
 
 @contextlib.contextmanager
 def written(path, *inputs):
     """Opens a file to be written in bytes, `-` for standard output. Where the block ends well it is there, and else nothing is changed."""
     if path != "-" and (same := one_of(path, inputs)):
-        raise OSError(f"{path} is {same}, which is read: it isn't written over")
+        raise OSError(f"{path} is {'standard input' if same == '-' else same}, which is read: it isn't written over")
     plain = path != "-" and (not os.path.exists(path) or stat.S_ISREG(os.stat(path).st_mode))
     if not plain:
         with tempfile.TemporaryFile() as file:

@@ -3,6 +3,8 @@ import re
 import shutil
 import subprocess
 
+from .front import blanked
+
 MOST_LETTERS = 44
 HEAD = """digraph network { rankdir=LR; bgcolor="transparent"; nodesep=0.3; ranksep=0.45;
 node [fontname="sans-serif" fontsize=11 shape=box style="filled" fillcolor="#ffffff" color="#555555"];
@@ -10,7 +12,8 @@ edge [fontname="sans-serif" fontsize=10 color="#777777" arrowsize=0.7];"""
 
 
 def quoted(words):
-    return '"' + words.replace("\\", "\\\\").replace('"', '\\"').replace("\n", "\\n") + '"'
+    """Returns words as a text of DOT in one line, what can't be shown as a blank."""
+    return '"' + blanked(words).replace("\\", "\\\\").replace('"', '\\"') + '"'
 
 
 def cut(words):
@@ -37,6 +40,11 @@ def says(box):
     return [f"{box['size']:,} ticks, each {box['advance']:,}{phase}"] + ([f"by {', '.join(box['group'])}"] if box.get("group") else []) + given
 
 
+def joined(lines):
+    """Returns lines as a label, each in the middle."""
+    return '"' + "\\n".join(quoted(line)[1:-1] for line in lines) + '"'
+
+
 def label(lines):
     """Returns lines as a label, each from the left."""
     return '"' + "".join(quoted(cut(line))[1:-1] + "\\l" for line in lines) + '"'
@@ -55,7 +63,7 @@ def nodes(network, run):
     for number, drop in enumerate(network.drops):
         gone = sum(batch.drop == number for batch in run.batches)
         words = [f"drop {number}", f"batches of {drop.length:,}", f"{gone:,} left out"]
-        yield f'd{number} [shape=hexagon margin=0.02 fillcolor="{"#fbe0dc" if gone else "#ffffff"}" label={quoted(chr(10).join(words))}];'
+        yield f'd{number} [shape=hexagon margin=0.02 fillcolor="{"#fbe0dc" if gone else "#ffffff"}" label={joined(words)}];'
 
 
 def edges(network):

@@ -5,7 +5,7 @@ import re
 from . import line_rules, meaning_rules, shape_rules
 from .finding import Finding, article, near
 from .front import clean
-from .network import KINDS, Network
+from .network import KINDS, Network, Unreadable
 from .places import VALUE, line_and_column
 from .run_words import Words
 from .tap_rules import TapWords, tap_finding
@@ -42,6 +42,48 @@ FIXED = {
 }
 
 
+class ReadOnce(Exception):
+    """A file that can't be read again, since it is none: a pipe, or a device."""
+
+
+def again(path, what):
+    """Returns a path of what the program read, where it is a file that can be read a second time."""
+    if os.path.exists(path) and not os.path.isfile(path):
+        raise ReadOnce(f"{what} came from {path}, which is no file and can't be read again")
+    return path
+
+
+def network_of(given):
+    return Network(again(given.nets[0], "the network"))
+
+
+def told_names(words):
+    """Returns the names of files that a message of a run with these words may have."""
+    given = TapWords(words[1:]) if words[:1] == ["tap"] else Words(words)
+    names = [*given.nets, *given.options.values(), *words]
+    for path in filter(os.path.isfile, given.nets):
+        names += [it["file"] for it in Network(path).sources if isinstance(it.get("file"), str)]
+    return names
+
+
+HEADS = ("aurora: cannot read ", "aurora: file too long: ")
+
+
+def messages_in(words, text, is_of_one_run=False):
+    """Cuts what was told into messages. Names of files are told as they are, so one with line feeds makes a message of several lines; a run tells one."""
+    if is_of_one_run and text.startswith(HEADS):
+        yield text
+        return
+    try:
+        wide = sorted({it for it in told_names(words) if "\n" in it}, key=len, reverse=True)
+    except (OSError, ValueError, Unreadable):
+        wide = []
+    while text:
+        found = next((it for it in (f"{head}{name}\n" for head in HEADS for name in wide) if text.startswith(it)), text[:text.find("\n") + 1] or text)
+        yield found.removesuffix("\n")
+        text = text[len(found):]
+
+
 def findings(words, message):
     """Yields what is found out of a message of a run with these words, or of a tap where the first is `tap`."""
     given = TapWords(words[1:]) if words[:1] == ["tap"] else Words(words)
@@ -50,16 +92,16 @@ def findings(words, message):
         for fault in given.faults:
             yield Finding(fault)
     elif match := re.fullmatch(r"network: (\w+)(?: (\w+) (\d+) (\d+))?((?: \S+)*)", said):
-        yield from of_network(Network(given.nets[0]), match)
+        yield from of_network(network_of(given), match)
     elif match := re.fullmatch(r"query: (\w+)(?: (\w+) (\d+) (\d+))?((?: \S+)*)", said):
-        yield from of_network(Network(given.query), match)
+        yield from of_network(Network(again(given.query, "the query")), match)
     elif match := re.fullmatch(r"tap: (\w+)", said):
         yield tap_finding(given, match[1])
     elif match := re.fullmatch(r"(capacities|picks): line (\d+)", said):
         rule = line_rules.capacities_finding if match[1] == "capacities" else line_rules.picks_finding
-        yield rule(given.options[f"--{match[1]}"], int(match[2]))
+        yield rule(again(given.options[f"--{match[1]}"], f"the file of --{match[1]}"), int(match[2]))
     elif match := re.fullmatch(r"stream (\w+): line (\d+): (\w+)", said):
-        yield line_rules.stream_finding(Network(given.nets[0]), match[1], int(match[2]), match[3])
+        yield line_rules.stream_finding(network_of(given), match[1], int(match[2]), match[3])
     elif match := re.fullmatch(r"(cannot read|file too long:) (.*)", said, re.DOTALL):
         yield unread(match[2], given) if match[1] == "cannot read" else too_long(match[2], given)
     elif said in FIXED:
@@ -162,7 +204,7 @@ def who_names(name, given):
     for option, value in given.options.items():
         if value == name:
             return "", 0, None, f"the file of `{option}`, "
-    network = Network(given.nets[0])
+    network = network_of(given)
     number = next((at for at, source in enumerate(network.sources) if source.get("file") == name), None)
     if number is None:
         return "", 0, None, "the file "
@@ -201,10 +243,13 @@ def too_long(name, given):
 
 def explained(words, message):
     """Returns a message and the lines below it."""
+    message = message.removesuffix("\n")
     try:
-        below = [line for found in findings(words, message.rstrip("\n")) for line in found.lines()]
-    except (KeyError, IndexError, TypeError, AttributeError, ValueError, StopIteration, OSError, RecursionError):
+        below = [line for found in findings(words, message) for line in found.lines()]
+    except ReadOnce as why:
+        below = list(Finding(str(why), "Keep it in a file, and run again.").lines())
+    except (KeyError, IndexError, TypeError, AttributeError, ValueError, StopIteration, OSError, RecursionError, Unreadable):
         below = []
     if not below and message.startswith("aurora: "):
         below = ["  nothing more is found out: the manual's parts 9 to 11 have this message"]
-    return "\n".join([clean(message.rstrip("\n")), *below]) + "\n"
+    return "\n".join([clean(message), *below]) + "\n"

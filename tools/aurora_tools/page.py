@@ -1,6 +1,4 @@
 """A run and its network as one page of HTML, without scripts, links and further files."""
-import html
-
 from . import charts, graph, run_text, series
 from .finding import counted, listed
 
@@ -33,7 +31,7 @@ def style():
 
 def table(heads, rows):
     def cells(tag, row):
-        return "".join(f"<{tag}>{html.escape(str(it))}</{tag}>" for it in row)
+        return "".join(f"<{tag}>{charts.escaped(str(it))}</{tag}>" for it in row)
     return f'<div class="wide"><table><tr>{cells("th", heads)}</tr>' + "".join(f"<tr>{cells('td', row)}</tr>" for row in rows) + "</table></div>"
 
 
@@ -78,8 +76,8 @@ def output_part(network, run, number, axis, colours):
     left_out = f"Left out by drop {drop}: the windows that start from {spans_told(axis, gone[:MOST_SPANS])}{more}." if gone else ""
     if not gone and run.whole:
         left_out = "Nothing of it was left out."
-    stream, weight = f"the stream <code>{html.escape(output['from'])}</code>", f"weight {output.get('weight', 1):,}"
-    parts = [f"<h3>{html.escape(output['name'])}</h3><p>{counted(len(rows), 'line')} of {stream}, {weight}. {left_out}</p>"]
+    stream, weight = f"the stream <code>{charts.escaped(output['from'])}</code>", f"weight {output.get('weight', 1):,}"
+    parts = [f"<h3>{charts.escaped(output['name'])}</h3><p>{counted(len(rows), 'line')} of {stream}, {weight}. {left_out}</p>"]
     if rows or gone:
         for one in series.series_of(network, output, rows):
             parts.append(charts.panel(one, gone, axis, colours))
@@ -118,7 +116,7 @@ def made(network, run, title, seconds):
     """Returns the page."""
     axis, picture = axis_of(network, run, seconds), graph.drawn(network, run)
     parts = ['<!doctype html><html lang="en"><meta charset="utf-8"><meta name="viewport" content="width=device-width">']
-    parts.append(f"<title>{html.escape(title)}</title><style>{style()}</style><h1>{html.escape(title)}</h1>{state(network, run)}<h2>Network</h2>")
+    parts.append(f"<title>{charts.escaped(title)}</title><style>{style()}</style><h1>{charts.escaped(title)}</h1>{state(network, run)}<h2>Network</h2>")
     parts.append(f'<div class="wide network">{picture}</div>' if picture else "<p>Not drawn: Graphviz wasn't there.</p>")
     colours = {}
     parts.append("<h2>Outputs</h2>")

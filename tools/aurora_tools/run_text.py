@@ -5,8 +5,12 @@ import io
 import re
 import sys
 
+from . import front, records
+
 NUMBER = re.compile(r"[0-9]{1,40}")
+LEAST_OF_64_BITS, MOST_OF_64_BITS = -(1 << 63), (1 << 63) - 1
 MOST_TICK = 1 << 40
+LENGTHS = {"@plan": 6, "@drop": 4, "@box": 3, "@late": 3, "@end": 1}
 LINES = {"int": re.compile(r"(?>(?>-?+[0-9]{1,19}+)?+\n)*+"), "bool": re.compile(r"(?>(?>true|false)?+\n)*+")}
 Plan = collections.namedtuple("Plan", "epoch load capacity saved verdict")
 Batch = collections.namedtuple("Batch", "drop number level")
@@ -24,24 +28,32 @@ def number(text):
 
 
 class Run:
-    """The lines of a run. A last line that isn't ended is left out: the run broke off in it."""
+    """The records of a run. A last one that isn't ended is left out: the run broke off in it."""
 
     def __init__(self, path):
         self.rows, self.plans, self.batches, self.fed, self.late = {}, [], [], {}, {}
         with open(sys.stdin.fileno() if path == "-" else path, encoding="utf-8", newline="") as file:
+            front.look_at_input(file, path)
             text = file.read()
-        last, reader = [], csv.reader(io.StringIO(text[:text.rfind("\n") + 1], newline=""))
+        ended = records.whole(text)
+        last, reader = [], csv.reader(io.StringIO(ended, newline="\n"), strict=True)
         try:
             for row in reader:
+                if last == ["@end"]:
+                    raise ValueError("behind the end")
                 last = row
                 self.take(row)
         except (ValueError, IndexError, TypeError, csv.Error) as fault:
             raise Strange(f"line {reader.line_num} of the text is none that a run writes: {','.join(last)[:80]}") from fault
-        self.whole = last == ["@end"] and text.endswith("\n")
+        self.whole = last == ["@end"] and ended == text
 
     def take(self, row):
         kind = row[0]
+        if kind.startswith("@") and len(row) != LENGTHS.get(kind):
+            raise ValueError(kind)
         if kind == "@plan":
+            if row[5] not in ("fits", "short"):
+                raise ValueError(row[5])
             self.plans.append(Plan(*(number(it) for it in row[1:5]), row[5]))
         elif kind == "@drop":
             self.batches.append(Batch(*(number(it) for it in row[1:4])))
@@ -85,9 +97,13 @@ def look_at_kinds(network, output, rows):
     """Raises Strange where a field of an output isn't of its kind."""
     fields = network.fields(output["from"])
     for at, (name, kind) in enumerate(fields.items()):
-        cells = [row[at] for _, row in rows] if kind in LINES else []
+        if kind not in LINES:
+            continue
+        cells = [row[at] for _, row in rows]
         lines = "\n".join(cells) + "\n" if cells else ""
-        if lines.count("\n") != len(cells) or cells and not LINES[kind].fullmatch(lines):
+        is_one = lines.count("\n") == len(cells) and LINES[kind].fullmatch(lines) is not None
+        wide = [it for it in cells if len(it) > 18] if kind == "int" and is_one else []
+        if cells and not is_one or any(not LEAST_OF_64_BITS <= int(it) <= MOST_OF_64_BITS for it in wide):
             raise Strange(f"{output['name']} has a line whose `{name}` isn't of the kind {kind}, which it is in {network.path}: that isn't the network of this run")
 
 
