@@ -186,11 +186,16 @@ def look_at_input(file, path):
         raise OSError(f"{path} is a device: a file or a pipe is read")
 
 
+def spare(path, inputs):
+    """Stops where a file that is to be written is one of those that are read."""
+    if path != "-" and (same := one_of(path, inputs)):
+        raise OSError(f"{path} is {'standard input' if same == '-' else same}, which is read: it isn't written over")
+
+
 @contextlib.contextmanager
 def written(path, *inputs):
     """Opens a file to be written in bytes, `-` for standard output. Where the block ends well it is there, and else nothing is changed."""
-    if path != "-" and (same := one_of(path, inputs)):
-        raise OSError(f"{path} is {'standard input' if same == '-' else same}, which is read: it isn't written over")
+    spare(path, inputs)
     plain = path != "-" and (not os.path.exists(path) or stat.S_ISREG(os.stat(path).st_mode))
     if not plain:
         with tempfile.TemporaryFile() as file:
@@ -204,20 +209,26 @@ def written(path, *inputs):
             except OSError as why:
                 raise OSError(why.errno, why.strerror, "standard output" if path == "-" else path) from None
         return
+    with beside(path) as name, open(name, "x+b", opener=lambda name, flags: os.open(name, flags, 0o600)) as file:
+        yield file
+
+
+@contextlib.contextmanager
+def beside(path):
+    """Gives the name of a file that is made beside another; where the block ends well it takes its place, with its rights, and else it goes."""
     path = os.path.realpath(path)
     mask = os.umask(0)
     os.umask(mask)
     mode = stat.S_IMODE(os.stat(path).st_mode) if os.path.exists(path) else 0o666 & ~mask
     # The name is chosen before the file is there, so that whatever interrupts this finds what to take away.
-    beside = os.path.join(os.path.dirname(path), f".{os.path.basename(path)[:40]}.{os.getpid()}.{secrets.token_hex(4)}")
+    name = os.path.join(os.path.dirname(path), f".{os.path.basename(path)[:40]}.{os.getpid()}.{secrets.token_hex(4)}")
     try:
-        with open(beside, "x+b", opener=lambda name, flags: os.open(name, flags, 0o600)) as file:
-            yield file
-        os.chmod(beside, mode)
-        os.replace(beside, path)
+        yield name
+        os.chmod(name, mode)
+        os.replace(name, path)
     except BaseException as why:
         with contextlib.suppress(FileNotFoundError):
-            os.unlink(beside)
-        if isinstance(why, OSError) and why.filename in (None, beside):
+            os.unlink(name)
+        if isinstance(why, OSError) and why.filename in (None, name):
             raise OSError(why.errno, why.strerror, path) from None
         raise
