@@ -8,6 +8,16 @@ _aurora_options()
     done
 }
 
+# Names of files as words: one that begins with a dash needs its folder before it, and what a line feed in a name cuts off is none.
+_aurora_names()
+{
+    local name
+    while IFS= read -r name; do
+        [[ $name == -* ]] && name=./$name
+        if [[ $name == '~'* || -e ${name%/} ]]; then printf '%s\n' "$name"; fi
+    done
+}
+
 _aurora()
 {
     local at=$((COMP_CWORD - 1)) word=${COMP_WORDS[COMP_CWORD]}
@@ -26,28 +36,28 @@ _aurora()
     if [ "${COMP_WORDS[1]}" = audit ]; then
         # The network, and then a text.
         case $COMP_CWORD in
-            2) mapfile -t COMPREPLY < <(compgen -f -X '!*.toml' -- "$word"; compgen -d -S / -- "$word") ;;
-            3) mapfile -t COMPREPLY < <(compgen -f -- "$word") ;;
+            2) mapfile -t COMPREPLY < <({ compgen -f -X '!*.toml' -- "$word"; compgen -d -S / -- "$word"; } | _aurora_names) ;;
+            3) mapfile -t COMPREPLY < <(compgen -f -- "$word" | _aurora_names) ;;
         esac
         return
     fi
     if [ "${COMP_WORDS[1]}" = tap ]; then
         # The network, a stream, a tick and a history, and then the query.
         case $COMP_CWORD in
-            2 | 6) mapfile -t COMPREPLY < <(compgen -f -X '!*.toml' -- "$word"; compgen -d -S / -- "$word") ;;
+            2 | 6) mapfile -t COMPREPLY < <({ compgen -f -X '!*.toml' -- "$word"; compgen -d -S / -- "$word"; } | _aurora_names) ;;
         esac
         return
     fi
     [ "${COMP_WORDS[1]}" = run ] || return
     case $before in
         --policy) mapfile -t COMPREPLY < <(compgen -W "rr long seeded" -- "$word") ;;
-        --capacities | --picks) mapfile -t COMPREPLY < <(compgen -f -- "$word") ;;
+        --capacities | --picks) mapfile -t COMPREPLY < <(compgen -f -- "$word" | _aurora_names) ;;
         --seed | --train | --frames) ;;
         *)
             if [[ $word == -* ]]; then
                 mapfile -t COMPREPLY < <(compgen -W "$(_aurora_options "$word")" -- "$word")
             else
-                mapfile -t COMPREPLY < <(compgen -f -X '!*.toml' -- "$word"; compgen -d -S / -- "$word")
+                mapfile -t COMPREPLY < <({ compgen -f -X '!*.toml' -- "$word"; compgen -d -S / -- "$word"; } | _aurora_names)
             fi
             ;;
     esac
@@ -79,7 +89,7 @@ _aurora_tool()
             if [[ $word == -* ]]; then
                 mapfile -t COMPREPLY < <(compgen -W "$(_aurora_tool_words "$1") --help --version" -- "$word")
             else
-                mapfile -t COMPREPLY < <(compgen -f -- "$word")
+                mapfile -t COMPREPLY < <(compgen -f -- "$word" | _aurora_names)
             fi
             ;;
     esac

@@ -50,4 +50,12 @@ offers_of "ns us ms s m h d" aurora-stream --tick ""
 offers_of "--hints --help" aurora-explain --h
 offers_of "--version" aurora-explain --v
 offers_of "capacity.csv" aurora-plan front.toml cap
+
+# A name with a dash at its start needs its folder; what is cut off at a line feed is no name.
+room=$(mktemp -d)
+trap 'rm -rf "$room"' EXIT
+cd "$room" || exit 1
+touch -- -opt.toml $'a\nb.toml' plain.toml
+offers "plain.toml ./-opt.toml" aurora run ""
+offers_of "./-opt.toml" aurora-plan ./-
 exit $failed
