@@ -31,7 +31,7 @@ int main(void) {
     setvbuf(stdout, room, _IOFBF, sizeof room);
     if (!malloc(8)) { write(2, "aurora: out of memory\n", 22); return 12; }
     void *tried = realloc(NULL, 8);
-    if (!calloc(1, 8)) { fclose(fdopen(creat("left", 0600), "w")); return 12; }
+    if (!calloc(1, 8)) { close(creat("left", 0600)); return 12; }
     write(1, "done\n", 5);
     return tried == room;
 }
@@ -76,18 +76,26 @@ class Faults(unittest.TestCase):
 
 @unittest.skipUnless(shutil.which("gcc"), "gcc isn't installed")
 class Requests(unittest.TestCase):
-    def test_each_request_is_refused_in_its_turn(self):
+    def refused(self, from_on):
+        """Returns how many runs of the program were wrong, and what is told of them."""
         with tempfile.TemporaryDirectory() as room:
             source, program = pathlib.Path(room, "program.c"), pathlib.Path(room, "program")
             source.write_text("#include <fcntl.h>\n" + PROGRAM, encoding="utf-8")
             subprocess.run(["gcc", "-O0", "-w", "-o", program, source], check=True)
             said = io.StringIO()
             with contextlib.redirect_stdout(said):
-                wrong = refuse.refuse(refuse.Runner(program, room, MADE), "gen", MADE, 1, None)
-        self.assertEqual(wrong, 1)
-        self.assertEqual(said.getvalue().splitlines(), [
+                return refuse.refuse(refuse.Runner(program, room, MADE, from_on), "gen", MADE, 1, None), said.getvalue().splitlines()
+
+    def test_each_request_is_refused_in_its_turn(self):
+        self.assertEqual(self.refused(False), (1, [
             "gen: request 3 refused: it left left",
-            "gen: 3 requests, 3 refused in turn: 1 with 0, 2 with 12 ended; 1 not as they are to be"])
+            "gen: 3 requests, 3 refused in turn: 1 with 0, 2 with 12 ended; 1 not as they are to be"]))
+
+    def test_all_requests_from_one_on_are_refused(self):
+        # Where the second is refused the third is too, which ended well before.
+        self.assertEqual(self.refused(True), (2, [
+            "gen: request 2 refused: it left left", "gen: request 3 refused: it left left",
+            "gen: 3 requests, 3 refused in turn and all behind it: 3 with 12 ended; 2 not as they are to be"]))
 
 
 if __name__ == "__main__":
