@@ -10,6 +10,8 @@ HEADER = re.compile(r"\[\[?([^\[\]\n]*)\]\]?")
 SHORT_TOKEN = re.compile(TOKEN.pattern.replace(r'"""(?:\\.|[^\\])*?"""|\'\'\'.*?\'\'\'|', ""), re.DOTALL)
 KEY = re.compile(r"([A-Za-z0-9_-]+|\"[^\"\n]*\"|'[^'\n]*')[ \t]*=")
 VALUE = "="
+# No entry of a network lies in more lists than these.
+MOST_DEEP = 4
 
 
 class Places:
@@ -45,7 +47,7 @@ class Places:
         while at < len(self.text):
             found = self.token(at)
             kind = found.lastgroup
-            if kind in ("text", "open", "word"):
+            if kind in ("text", "open", "word") and len(path) <= MOST_DEEP:
                 self.keys.setdefault((*key, *(path or [VALUE])), at)
             if kind == "newline" and not path:
                 break

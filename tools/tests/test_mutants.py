@@ -2,7 +2,7 @@
 """Files that are changed byte by byte make no tool fail otherwise than by a line of its own, hang, or write where it wasn't told to.
 
     tools/tests/test_mutants.py                     some of each kind, as the gate has it
-    tools/tests/test_mutants.py --full [SEED]       2,000 of each kind, and tells how many ended how
+    tools/tests/test_mutants.py --full [SEED [COUNT]]   2,000 of each kind, or so many, and tells how many ended how
 
 Networks, texts of runs, capacities, tables and streams are changed, and the tools run on them in this process.
 """
@@ -289,7 +289,7 @@ class Changed(unittest.TestCase):
 
 def main():
     seed = int(sys.argv[2]) if len(sys.argv) > 2 else random.randrange(1 << 32)
-    mutants = run(2000, seed)
+    mutants = run(int(sys.argv[3]) if len(sys.argv) > 3 else 2000, seed)
     print(f"seed {seed}: {sum(mutants.ends.values())} ends: {', '.join(f'{name} {status}: {count}' for (name, status), count in sorted(mutants.ends.items(), key=str))}")
     for name, words, why, files in mutants.faults:
         print(name, words, why, files)
