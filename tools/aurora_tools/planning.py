@@ -3,6 +3,7 @@ import bisect
 import collections
 import csv
 import fractions
+import os
 import re
 
 from . import network, run_text
@@ -46,6 +47,8 @@ def counted(net):
     """Returns how many tuples each source has in each epoch, and the last epoch with any tuple."""
     counts = collections.defaultdict(lambda: [0] * len(net.sources))
     for at, source in enumerate(net.sources):
+        if os.path.exists(source["file"]) and not os.path.isfile(source["file"]):
+            raise network.Unreadable(f"{source['file']} is no file, and can't be read again")
         for line in rows_of(source["file"]):
             counts[tick_of(line) // net.epoch][at] += 1
     return counts, max(counts, default=0)
@@ -183,10 +186,11 @@ def line_of(plan):
 def streams_told(net, run):
     """Returns how many tuples each stream had in a full run, as far as its text tells by what was fed, late and shown."""
     known = {it["from"]: len(run.shown(it)) for it in net.outputs}
-    known |= {it["name"]: sum(1 for _ in rows_of(it["file"])) for it in net.sources}
+    known |= {it["name"]: sum(1 for _ in rows_of(it["file"])) for it in net.sources if os.path.isfile(it["file"])}
     same = [(box["name"], box["in"][0]) for box in net.boxes if box["kind"] == "resample"]
-    sums = [(box["in"], run.fed[box["name"]]) for box in net.boxes]
-    for box in net.boxes:
+    told = [box for box in net.boxes if box["name"] in run.fed]
+    sums = [(box["in"], run.fed[box["name"]]) for box in told]
+    for box in told:
         if box["kind"] in ("filter", "map", "union", "bsort"):
             sums.append((network.ports(box), run.fed[box["name"]] - run.late.get(box["name"], 0)))
     while True:

@@ -15,6 +15,8 @@ import subprocess
 import sys
 import tempfile
 
+from . import front
+
 FORMS = ("csv", "tsv", "jsonl", "clf")
 ENDINGS = {"csv": "csv", "tsv": "tsv", "jsonl": "jsonl", "ndjson": "jsonl", "json": "jsonl"}
 PACKED_ENDINGS = (".gz", ".zst", ".bz2", ".xz")
@@ -81,6 +83,7 @@ class Table:
         if path == "-" or not stat.S_ISREG(os.stat(path).st_mode):
             self.kept = tempfile.NamedTemporaryFile()
             with open(sys.stdin.fileno() if path == "-" else path, "rb", closefd=path != "-") as pipe:
+                front.look_at_input(pipe, path)
                 shutil.copyfileobj(pipe, self.kept)
             self.kept.flush()
             self.place = self.kept.name
