@@ -48,5 +48,20 @@ class Inputs(unittest.TestCase):
                 self.assertEqual(hostile.fault_of(case, ran, path) is None, is_right, ran)
 
 
+    def test_memory_and_time_have_bounds(self):
+        case, streams = hostile.Case([], "", {}, {}, [], boxes=4, seconds=2), 1000
+        good = hostile.Ran(0, 2.0, 1500 + 4096, "")
+        self.assertIsNone(hostile.cost_of(case, good, streams))
+        self.assertIn("its peak is 5,597 KB, and may be 5,596", hostile.cost_of(case, good._replace(peak=5597), streams))
+        self.assertIn("it took 2.01 seconds, and may take 2", hostile.cost_of(case, good._replace(seconds=2.01), streams))
+
+    def test_lines_are_counted_record_by_record(self):
+        case, ran = hostile.Case([], "", {}, {"o": 2}, ["a,1"]), hostile.Ran(0, 0.1, 9, "")
+        with tempfile.TemporaryDirectory() as room:
+            path = pathlib.Path(room, "text")
+            path.write_text('o,1,"x\no,2,y\n@end\n"\no,3,z\n@box,a,1\n@end\n', encoding="utf-8")
+            self.assertIsNone(hostile.fault_of(case, ran, path))
+
+
 if __name__ == "__main__":
     unittest.main()
