@@ -32,7 +32,7 @@ class Run:
 
     def __init__(self, path):
         self.rows, self.plans, self.batches, self.fed, self.late = {}, [], [], {}, {}
-        with open(sys.stdin.fileno() if path == "-" else path, encoding="utf-8", newline="") as file:
+        with open(sys.stdin.fileno() if path == "-" else path, encoding="utf-8", newline="", closefd=path != "-") as file:
             front.look_at_input(file, path)
             text = file.read()
         ended = records.whole(text)
