@@ -42,9 +42,10 @@ KIT="rattle-kit-14 logic dac8208d650f15bf" says "the toolchain isn't the one tha
 echo >>crates/aurora/src/main.rt
 says "the files below crates/ aren't those that the gate proved"
 echo "fn main() {}" >crates/aurora/src/main.rt
-touch crates/aurora/src/more.rt
+mkdir crates/aurora/src/out
+touch crates/aurora/src/out/more.rt
 says "the files below crates/ aren't those that the gate proved"
-rm crates/aurora/src/more.rt
+rm -r crates/aurora/src/out
 says proved
 
 # An unproved program at the proved one's path, younger than every source, is installed as what it is.
