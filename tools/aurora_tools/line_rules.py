@@ -6,6 +6,7 @@ from .finding import Finding, counted, listed, shown_fields
 
 MOST_TICK = 1 << 40
 QUOTED = re.compile(rb'(?:[^"]++|"")*+')
+QUOTED_WHOLE = re.compile(rb'"(?:[^"]++|"")*+"(?=,|$)')
 WHOLE = re.compile(rb"-?[0-9]{1,19}")
 
 
@@ -91,6 +92,13 @@ def number_of_fields(line, fields, kinds, _):
             return words, f"Fields are separated by commas, and here by {said}: tr '{written}' ','", line.find(sign)
     if len(fields) > len(names):
         return words, "A field with a comma in it stands in double quotes.", fields[len(names)][1]
+    if line.lstrip()[:1] in (b"#", b"/"):
+        return words, "A stream has no remarks: take the line away by grep -v '^#'", 0
+    if not line.strip():
+        return words, "A line of blanks is no empty line: take it away by sed '/^[[:blank:]]*$/d'", 0
+    opened = next((begin for value, begin in fields if line[begin:begin + 1] == b'"' and not QUOTED_WHOLE.match(line, begin)), None)
+    if opened is not None:
+        return words, "A quote opens here and isn't closed in this line. A text has no line feed, and a quote in it is written twice.", opened
     return words, "What is missing is left empty, but its comma stands.", None
 
 
@@ -153,7 +161,7 @@ NUMBERS = (
     (rb"^ *[-+]?[0-9]* *$", "No plus, no blanks: they belong to the field."),
     (rb"[0-9][.][0-9]", "Fractions are kept as whole numbers of a smaller unit, as tenths or cents: multiply before."),
     (rb"^(?i:na|n/a|nan|null|none|-)$", "What is missing is left empty."),
-    (rb"[0-9][,' ][0-9]{3}", "No marks between thousands."),
+    (rb"[0-9][,' _][0-9]{3}", "No sign stands between thousands."),
     (rb"", "A field of texts is declared as name:text."),
 )
 BOOLEANS = (

@@ -1,4 +1,6 @@
 """The rules on what a network file means, each as a function from a part to what it finds: words, a remedy, the way to the key."""
+import re
+
 from . import expression
 from .finding import counted, listed, near, shown_fields, told_fields
 from .network import is_name
@@ -160,6 +162,22 @@ def unreadable(network, _, number, item, at="0", what=""):
     yield f"the expression can't be read at byte {at}: {reason}", hint, way, place
 
 
+# What other languages have, and what stands for it here, by the word before the fault or behind it.
+ELSEWHERE = {
+    "in": "There is no list of values: write `a = 1 or a = 2`.",
+    "like": "There are no patterns: texts are compared whole, by = and the other comparisons.",
+    "between": "Write both bounds: `a >= 1 and a <= 5`.",
+    "case": "There is no choice in an expression: a Filter parts the tuples, a Map behind each port sets its value, and a Union brings them together.",
+    "if": "There is no choice in an expression: a Filter parts the tuples, a Map behind each port sets its value, and a Union brings them together.",
+    "coalesce": "A Filter parts what `is null` from the rest; a Map behind each port sets its value, and a Union brings them together.",
+    "ifnull": "A Filter parts what `is null` from the rest; a Map behind each port sets its value, and a Union brings them together.",
+    "abs": "There are no functions: a Filter by `a < 0`, a Map with `0 - a` behind it, and a Union.",
+    "where": "An expression is what stands behind WHERE in SQL, alone.",
+    "select": "An expression is what stands behind WHERE in SQL, alone.",
+}
+ELSEWHERE |= {"when": ELSEWHERE["case"], "then": ELSEWHERE["case"], "else": ELSEWHERE["case"], "ilike": ELSEWHERE["like"], "matches": ELSEWHERE["like"], "nvl": ELSEWHERE["ifnull"]}
+
+
 def why_unreadable(text, at, what):
     here, rest = text[at:at + 1], text[at:]
     if what == "BadToken":
@@ -188,11 +206,14 @@ def why_unreadable(text, at, what):
         return "comparisons don't chain", "Write `a < b and b < c`."
     guess = near(last, ("and", "or", "not", "is")) if last.isalpha() else ""
     words = f"an operator must stand between `{last}` and `{rest.split()[0]}`, or the expression ends{guess}"
-    return words, "There are no functions: operators are + - * / %, comparisons, and, or, not, is null."
+    remedy = next((ELSEWHERE[it] for it in (last, rest.split()[0].partition("(")[0]) if it in ELSEWHERE), "")
+    return words, remedy or "There are no functions: operators are + - * / %, comparisons, and, or, not, is null."
 
 
 def bad_token(text, at):
     here, two = text[at], text[at:at + 2]
+    if two == "||" and ("'" in text[at + 2:].lstrip()[:1] or text[:at].rstrip().endswith("'")):
+        return "there is no `||`", "Texts can't be put together: keep each in a field of its own."
     for sign, instead in (("!=", "<>"), ("&&", "and"), ("||", "or"), ("!", "not"), ("&", "and"), ("|", "or")):
         if two.startswith(sign):
             return f"there is no `{sign}`", f"Write `{instead}`."
@@ -202,12 +223,18 @@ def bad_token(text, at):
         return "the text isn't closed", "It ends with a single quote; a quote in it is written twice."
     if here == '"':
         return "a text in an expression stands in single quotes", "Write 'so'."
+    named = re.search(r"([a-z][a-z0-9_]*)\.$", text[:at + 1]), re.match(r"\.([a-z][a-z0-9_]*)", text[at:])
+    if here == "." and all(named):
+        stream, field = named[0][1], named[1][1]
+        return f"a field has no stream's name before it, as `{stream}.{field}`", f"Its name is `{field}`; in a Join the fields of the first stream begin with l_ and those of the second with r_: l_{field}, r_{field}."
     if here == ".":
         return "there are no fractions, and no names with a point", "Numbers are whole: compare in a smaller unit, as tenths or cents."
     if here.isupper():
         return f"`{here}` is a capital letter", "Names and words are in small letters; a text stands in single quotes."
     if here in "\t\n\r":
         return "it has a tab or a line's end", "Between tokens stand blanks alone."
+    if re.search(r"[0-9]$", text[:at]) and re.match(r"[_,'][0-9]", text[at:]):
+        return f"a number has no `{here}`", "No sign stands between thousands."
     return f"the language of expressions has no `{here}`", "A text stands in single quotes."
 
 
@@ -233,12 +260,25 @@ def mistyped(box, item, fields, have):
     for misfit in misfits:
         sides = [side for side in (f"l_{misfit.field}", f"r_{misfit.field}") if side in fields]
         guess = f" (is {listed([f'`{side}`' for side in sides], 'or')} meant?)" if sides else near(misfit.field, fields) if misfit.field else ""
-        yield misfit.words + guess, have, way, misfit.at
+        yield misfit.words + guess, own_field(box, item, misfit.field) or have + text_meant(text, misfit.field, guess), way, misfit.at
     if not misfits and box["kind"] == "map":
         yield "the bare `null` has no kind", "Leave the field out, or compute a Null of a kind: `null + 0` is a number.", way, 0
     elif not misfits:
         hint = "Compare it, as by `<> 0`." if kind == "int" else "Compare it, as by `= 'so'`."
         yield f"the predicate `{text}` is of the kind {kind}, and must be a boolean", f"{hint} {have}", way, 0
+
+
+def own_field(box, item, field):
+    """Returns what to do about a field that the same Map sets."""
+    if box["kind"] == "map" and any(name == field for name, _ in box["set"]):
+        return f"`{field}` is set by this Map, whose expressions see what comes in: what is made of `{field}` goes into a second Map behind it."
+    return ""
+
+
+def text_meant(text, field, guess):
+    """Returns a remark where the only word of an expression, or one side of a comparison, may be meant as a text."""
+    alone = field and (text.strip() == field or re.search(rf"(?:=|<>)\s*{field}\s*$", text))
+    return f" A text stands in single quotes: '{field}'." if alone and not guess else ""
 
 
 def group(network, _, number, item):

@@ -112,7 +112,18 @@ NETWORKS = [
     ("value >= 10", "value is 3", "Expr box 0 0 9 Expected", "where", "is null"),
     ("value >= 10", "value > 10 is null", "Expr box 0 0 11 Expected", "where", "`(a = b) is null`"),
     ("value >= 10", "good = not good", "Expr box 0 0 7 Expected", "where", "(not a)"),
-    ("value >= 10", "abs(value) > 3", "Expr box 0 0 3 Expected", "where", "no functions"),
+    ("value >= 10", "abs(value) > 3", "Expr box 0 0 3 Expected", "where", "a Map with `0 - a`"),
+    ("value >= 10", "least(value) > 3", "Expr box 0 0 5 Expected", "where", "no functions"),
+    ("value >= 10", "unit in ('a')", "Expr box 0 0 5 Expected", "where", "`a = 1 or a = 2`"),
+    ("value >= 10", "unit like 'a'", "Expr box 0 0 5 Expected", "where", "no patterns"),
+    ("value >= 10", "value between 1 and 3", "Expr box 0 0 6 Expected", "where", "`a >= 1 and a <= 5`"),
+    ("value >= 10", "case when good then 1 end", "Expr box 0 0 5 Expected", "where", "a Filter parts the tuples"),
+    ("value >= 10", "value > 1_000", "Expr box 0 0 9 BadToken", "where", "between thousands"),
+    ("value >= 10", "unit || 'a'", "Expr box 0 0 5 BadToken", "where", "can't be put together"),
+    ("value >= 10", "good || good", "Expr box 0 0 5 BadToken", "where", "Write `or`"),
+    ("value >= 10", "unit = b", "Typing box 0 0", "where", "'b'"),
+    ('["tenths", "value * 10"]', '["tenths", "value * 10"], ["more", "tenths * 10"]', "Typing box 1 2", "more", "a second Map behind it"),
+    ('"l_unit = r_unit"', '"readings.unit = others.unit"', "Expr box 5 0 8 BadToken", "on", "l_unit, r_unit"),
     ("value >= 10", "(" * 65 + "value" + ")" * 65, "Expr box 0 0 64 Depth", "where", "64 may be"),
     ("value >= 10", "vlaue >= 10", "Typing box 0 0", "vlaue", "`value` meant"),
     ("value >= 10", "value", "Typing box 0 0", "where", "kind int"),
@@ -140,6 +151,10 @@ NETWORKS = [
 LINES = [
     ("4,a,1", "Fields", "3 fields"),
     ("4;a;1;true", "Fields", "semicolons"),
+    ("# 4", "Fields", "no remarks"),
+    ("  ", "Fields", "line of blanks"),
+    ('4,"a,1,true', "Fields", "A quote opens here"),
+    ("4,a,1_000,true", "NotInt", "thousands"),
     ("4,a,1,true,x", "Fields", "5 fields"),
     ("x,a,1,true", "Tick", "`x`"),
     ("1700000000000,a,1,true", "Tick", "Milliseconds"),
@@ -165,7 +180,8 @@ PICKS = [("1\n-2\n", 2), ("4294967296\n", 1)]
 WORDS = [
     ([], "none is named"), (["a.toml", "b.toml"], "2 words"), (["a.toml", "--capacity", "c.csv"], "`--capacities` meant"), (["a.toml", "--train", "0"], "1 to 4,096"),
     (["a.toml", "--seed"], "no value"), (["a.toml", "--seed=1", "--seed=1"], "twice"), (["a.toml", "--picks=p", "--policy=rr"], "exclude"), (["-a"], "two dashes"),
-    (["a.toml", "--policy", "fast"], "rr, long and seeded"),
+    (["a.toml", "--policy", "fast"], "rr, long and seeded"), (["a.toml", "--version"], "`aurora-explain --version` tells the version"), (["--help"], "`man aurora` is its help"),
+    (["rnu", "a.toml"], "`run` meant"), (["run", "a.toml"], "stands before NET already"), (["audit", "a.toml"], "NET and OUT, and here is 1"), (["gen", "7", "0"], "ROWS is `0`"),
 ]
 
 
