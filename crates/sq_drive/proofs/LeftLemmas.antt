@@ -31,7 +31,7 @@ use Rattle.sq_words.proofs.Lists.{has_item}
 use Rattle.sq_words.proofs.Alls.{all_append}
 
 -- nothing was done
-stepped_none : (pages : Option Pages) (e : Engine) → IsSoundEngine e → Together e.engine.flow.queues pages
+pub stepped_none : (pages : Option Pages) (e : Engine) → IsSoundEngine e → Together e.engine.flow.queues pages
     → Stepped actors pages pages e.engine.flow e.engine.flow [] []
 stepped_none pages e sound together = record {
   flow_after = sound.engine.flow;

@@ -11,6 +11,7 @@ ghost use Rattle.sq_flow.specs.Flows.{measure_of};
 ghost use Rattle.sq_core.specs.Runs.{IsRun, IsSoundEngine};
 ghost use Rattle.sq_drive.specs.Counting.{Counted, CountsOn, AreCountsOf, HasCounts, IsSummed};
 ghost use Rattle.sq_drive.specs.Driving.{IsCutShort, IsHalted, Stops};
+ghost use Rattle.sq_drive.specs.Failing.{CameTo, WentOn};
 ghost use Rattle.sq_drive.specs.Stopping.{StopHasCause};
 
 use crate::driving::status_of;
@@ -97,9 +98,11 @@ fn count_step<D: PageDisk, L: Ledger>(
     ensures later { IsLater (D.log disk.old) (D.log disk.new) }
     ensures falls { OnOk result (measure_of engine.new.engine.flow < measure_of engine.old.engine.flow) }
     ensures ok { OnOk result (CountsOn (known (D.log disk.old)) (known (D.log disk.new)) engine.old engine.new steps.old steps.new counts.old counts.new) }
+    ensures left { OnOk result (WentOn (known (D.log disk.old)) (known (D.log disk.new)) engine.old engine.new) }
     ensures err { IfErr result (λ s. Stops (known (D.log disk.old)) (known (D.log disk.new)) (D.log disk.old).honest engine.old steps.old steps.new None [] None s) }
     ensures cut { IfErr result (λ s. (before now : ℕ) → IsCutShort before now s) }
-    ensures stopped { IfErr result (StopHasCause (λ e. e.network ≡ engine.old.network) (D.log disk.old) (D.log disk.new) (D.faults disk.old) (D.faults disk.new)) }
+    ensures stopped { IfErr result (λ s. StopHasCause (CameTo (D.log disk.old) (D.log disk.new) engine.old s)
+        (D.log disk.old) (D.log disk.new) (D.faults disk.old) (D.faults disk.new) s) }
     ensures faults { D.faults disk.old ≤ D.faults disk.new }
 {
     let pick = policy.next(engine.ready(), engine.waits());
@@ -149,7 +152,8 @@ fn count_to_end<D: PageDisk, L: Ledger>(
     ensures err { IfErr result (λ s. (r : Replay) (begun : ℕ) → Tells (known (D.log disk.new)) → IsRun r (known (D.log disk.old)) engine.old [] begun steps.old
         → IsHalted (D.log disk.old).honest r [] s None None begun steps.new) }
     ensures cut { IfErr result (λ s. (before now : ℕ) → IsCutShort before now s) }
-    ensures stopped { IfErr result (StopHasCause (λ e. e.network ≡ engine.old.network) (D.log disk.old) (D.log disk.new) (D.faults disk.old) (D.faults disk.new)) }
+    ensures stopped { IfErr result (λ s. StopHasCause (CameTo (D.log disk.old) (D.log disk.new) engine.old s)
+        (D.log disk.old) (D.log disk.new) (D.faults disk.old) (D.faults disk.new) s) }
     ensures faults { D.faults disk.old ≤ D.faults disk.new }
     ensures later { IsLater (D.log disk.old) (D.log disk.new) }
 {
@@ -186,7 +190,8 @@ pub fn count<D: PageDisk, L: Ledger>(
     ensures err { IfErr result (λ s. (r : Replay) (begun : ℕ) → Tells (known (D.log disk.new)) → IsRun r (known (D.log disk.old)) engine [] begun steps.old
         → IsHalted (D.log disk.old).honest r [] s None None begun steps.new) }
     ensures cut { IfErr result (λ s. (before now : ℕ) → IsCutShort before now s) }
-    ensures stopped { IfErr result (StopHasCause (λ e. e.network ≡ engine.network) (D.log disk.old) (D.log disk.new) (D.faults disk.old) (D.faults disk.new)) }
+    ensures stopped { IfErr result (λ s. StopHasCause (CameTo (D.log disk.old) (D.log disk.new) engine s)
+        (D.log disk.old) (D.log disk.new) (D.faults disk.old) (D.faults disk.new) s) }
     ensures faults { D.faults disk.old ≤ D.faults disk.new }
     ensures later { IsLater (D.log disk.old) (D.log disk.new) }
 {

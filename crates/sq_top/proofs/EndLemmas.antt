@@ -49,6 +49,7 @@ use Rattle.sq_work.specs.FolderStates.{FolderState}
 use Rattle.sq_work.specs.Reads.{GoesBy, IfAccepted, ScriptLeads, network_read}
 use Rattle.sq_pool.specs.Trust.{Tells, known}
 use Rattle.sq_drive.specs.Stopping.{StopHasCause}
+use Rattle.sq_drive.specs.Failing.{IsOfRun}
 use Rattle.sq_top.specs.Ends.{DiskFails, DoesAll, DoesNothing, DoesPart, Ends, IsEngineOf, KnowsDisk, OutputFails}
 use Rattle.sq_top.specs.Outside.{Outside}
 use Rattle.sq_top.specs.Texts.{BeginsSummary, BeginsText, IsPrefixOfDue, IsWholeOf, turns_for, verdict_text, work_for}
@@ -406,7 +407,7 @@ module _ (words : List (List ℕ)) (before after : Outside) (r : AcceptedReplay)
   names_none s is = tt
 
   -- without a fault it is want of memory, or too much, or a page that came back garbled
-  ends_ok : (s : Status) → IsCutShort before.output.faults after.output.faults s → StopHasCause (λ e. e.network ≡ r.network) before.disk.log after.disk.log before.disk.faults after.disk.faults s
+  ends_ok : (s : Status) → IsCutShort before.output.faults after.output.faults s → StopHasCause (IsOfRun before.disk.log after.disk.log r s) before.disk.log after.disk.log before.disk.faults after.disk.faults s
       → (is_changed s ≡ true → is_garbled s ≡ true) → (s ≡ status.TooMuch → 2 ^ 62 ≤ turns) → ¬ (DiskFails before after) → ¬ (OutputFails before after) → turns < 2 ^ 62
       → (s ≡ status.Ok) ⊎ (s ≡ status.Memory) ⊎ (is_garbled s ≡ true)
   ends_ok status.Ok cut stop garbled much sound dry few = inl refl
@@ -420,7 +421,7 @@ module _ (words : List (List ℕ)) (before after : Outside) (r : AcceptedReplay)
   ends_ok s cut stop garbled much sound dry few = let no = cut.begun in absurd (cc)
 
   -- the answer is cut short
-  pub answered_cut : (s : Status) → IsCutShort before.output.faults after.output.faults s → StopHasCause (λ e. e.network ≡ r.network) before.disk.log after.disk.log before.disk.faults after.disk.faults s
+  pub answered_cut : (s : Status) → IsCutShort before.output.faults after.output.faults s → StopHasCause (IsOfRun before.disk.log after.disk.log r s) before.disk.log after.disk.log before.disk.faults after.disk.faults s
       → (before.disk.log.honest ≡ true → is_changed s ≡ false) → (KnowsDisk (command_in words) after → is_changed s ≡ true → is_garbled s ≡ true)
       → (KnowsDisk (command_in words) after → s ≡ status.TooMuch → 2 ^ 62 ≤ turns)
       → (KnowsDisk (command_in words) after → DoesPart (command_in words) r s before after) → Ends words before after s source
@@ -436,7 +437,7 @@ module _ (words : List (List ℕ)) (before after : Outside) (r : AcceptedReplay)
     usage = record { only = λ e. absurd (begun s status.Usage cut.begun refl e); when = λ e. absurd (some_none (command_in words) some e) };
     refusal = cut.begun;
     no_memory = not_hidden s cut.begun;
-    stopped = stop_map _ (IsEngineOf (Done r)) _ _ _ _ _ _ _ _ s (λ rose. rose) (λ queues e back. back) (λ e is. is) stop;
+    stopped = stop_map _ (IsEngineOf (Done r) before after s) _ _ _ _ _ _ _ _ s (λ rose. rose) (λ queues e back. back) (λ e is. is) stop;
     unchanged = same;
     garbled = garbled;
     sink = cut.sink;
@@ -458,7 +459,7 @@ module _ (words : List (List ℕ)) (before after : Outside) (r : AcceptedReplay)
     driven_ok whole = answered_ok
         (λ told. let all = whole (told engine) in (all.0, subst (λ k. after.steps ≡ before.steps + k) work_is all.1))
 
-    pub driven_cut : (s : Status) → IsCutShort before.output.faults after.output.faults s → StopHasCause (λ e. e.network ≡ r.network) before.disk.log after.disk.log before.disk.faults after.disk.faults s
+    pub driven_cut : (s : Status) → IsCutShort before.output.faults after.output.faults s → StopHasCause (IsOfRun before.disk.log after.disk.log r s) before.disk.log after.disk.log before.disk.faults after.disk.faults s
         → (before.disk.log.honest ≡ true → is_changed s ≡ false) → (Tells (known after.disk.log) → is_changed s ≡ true → is_garbled s ≡ true) → (Tells (known after.disk.log) → s ≡ status.TooMuch → 2 ^ 62 ≤ turns_in (replayed r))
         → (Tells (known after.disk.log) → AppendsSuch before.output.written after.output.written (IsPrefixOfDue (command_in words) r s) × (after.steps ≤ before.steps + work_in (replayed r)))
         → Ends words before after s source

@@ -19,6 +19,7 @@ use Rattle.sq_work.specs.Scripts.{Lookup, AcceptedReplay, Script, Reads, Done, S
 use Rattle.sq_drive.specs.Due.{due_of, replayed}
 use Rattle.sq_work.specs.FolderStates.{FolderState}
 use Rattle.sq_work.specs.Reads.{GoesBy, IfAccepted, WhereTold, network_read}
+use Rattle.sq_drive.specs.Failing.{IsOfRun}
 use Rattle.sq_top.specs.Ends.{DiskFails, DoesAll, DoesNothing, DoesPart, Ends, FolderFails, IsEngineOf, KnowsDisk, OutputFails}
 use Rattle.sq_top.specs.Outside.{Outside}
 use Rattle.sq_top.specs.Texts.{turns_for}
@@ -291,7 +292,7 @@ module _ (files : Files) (words : List (List ℕ)) (before after : Outside) (res
         (λ s. ⊥) (h.ok e));
     other = other_told;
     refusal = record { only = refusal_only; when = refusal_when; reached = reached };
-    stopped = stop_map (IsEngineOf h.left) _ _ _ _ _ _ _ _ _ result (λ rose. rose) (λ queues e back. back) (λ e is. at_left _ _ (match_left (file files) h.left (λ r. e.network ≡ r.network) (λ s. ⊥) is)) h.stopped;
+    stopped = stop_map (IsEngineOf h.left before after result) _ _ _ _ _ _ _ _ _ result (λ rose. rose) (λ queues e back. back) (λ e is. at_left _ _ (match_left (file files) h.left (λ r. IsOfRun before.disk.log after.disk.log r result e) (λ s. ⊥) is)) h.stopped;
     too_much = λ e. at_left _ _ (match_left (file files) h.left (λ r. KnowsDisk (command_in words) after → 2 ^ 62 ≤ turns_for (command_in words) r) (λ s. ⊥) (h.too_much e));
     complete = complete_told;
     named = named_told result h.refusal h.named;

@@ -14,6 +14,7 @@ use Rattle.sq_work.specs.Scripts.{AcceptedReplay, Script, script_of}
 use Rattle.sq_work.specs.Reads.{GoesBy, IfAccepted}
 use Rattle.sq_work.specs.Refusals.{UsageHasCause, NamesSource, IsRefusedAt}
 use Rattle.sq_drive.specs.Stopping.{StopHasCause}
+use Rattle.sq_drive.specs.Failing.{IsOfRun}
 use Rattle.sq_top.specs.Outside.{Outside}
 use Rattle.sq_top.specs.Texts.{IsPrefixOfDue, IsWholeOf, turns_for, work_for}
 
@@ -48,9 +49,9 @@ DoesPart c r result before after = Writes before after (IsPrefixOfDue c r result
 abbrev pub KnowsDisk : Option Command → Outside → Type 0
 KnowsDisk c after = runs_engine c ≡ true → Tells (known after.disk.log)
 
--- the engine has the network that was accepted
-abbrev pub IsEngineOf : Script → Engine → Type 0
-IsEngineOf left engine = IfAccepted left (λ r. engine.network ≡ r.network) ⊥
+-- all was accepted, and in this call the engine came from a new one of it to fail with this status
+abbrev pub IsEngineOf : Script → Outside → Outside → Status → Engine → Type 0
+IsEngineOf left before after result engine = IfAccepted left (λ r. IsOfRun before.disk.log after.disk.log r result engine) ⊥
 
 -- how a call ends, but for its message
 pub record Ends (words : List (List ℕ)) (before after : Outside) (result : Status) (source : List ℕ) : Type 0 where
@@ -75,8 +76,8 @@ pub record Ends (words : List (List ℕ)) (before after : Outside) (result : Sta
   pub usage : UsageHasCause words result
   pub no_memory : hides_memory result ≡ false
   pub named : NamesSource words read result source
-  -- an engine stops for a cause that it shows; no page of an honest disk is changed, and none of a known disk but that its digest tells
-  pub stopped : StopHasCause (IsEngineOf left) before.disk.log after.disk.log before.disk.faults after.disk.faults result
+  -- an engine of this call stops for a cause that it shows; no page of an honest disk is changed, and none of a known disk but that its digest tells
+  pub stopped : StopHasCause (IsEngineOf left before after result) before.disk.log after.disk.log before.disk.faults after.disk.faults result
   pub unchanged : before.disk.log.honest ≡ true → is_changed result ≡ false
   pub garbled : KnowsDisk (command_in words) after → is_changed result ≡ true → is_garbled result ≡ true
   -- the output has failed, or the work is too much

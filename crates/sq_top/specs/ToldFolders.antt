@@ -16,6 +16,7 @@ use Rattle.sq_command.specs.Commands.{command_in}
 use Rattle.sq_work.specs.Scripts.{Lookup, AcceptedReplay, accepted, file_reads, script_of}
 use Rattle.sq_status.specs.Messages.{name_at, network_if_ok}
 use Rattle.sq_drive.specs.Stopping.{StopHasCause}
+use Rattle.sq_drive.specs.Failing.{IsOfRun}
 use Rattle.sq_top.specs.Ends.{DiskFails, DoesAll, DoesNothing, DoesPart, FolderFails, KnowsDisk, OutputFails}
 use Rattle.sq_top.specs.Outside.{Outside}
 use Rattle.sq_top.specs.Texts.{turns_for}
@@ -78,7 +79,7 @@ pub record EndsOver (files : Files) (words : List (List ℕ)) (before after : Ou
   pub other : result ≢ status.Ok → MatchAccepted (accepted (file files) words)
       (λ r. KnowsDisk (command_in words) after → DoesPart (command_in words) r result before after) (λ s. DoesNothing before after)
   pub refusal : RefusalHasCause files words before after result
-  pub stopped : StopHasCause (λ engine. MatchAccepted (accepted (file files) words) (λ r. engine.network ≡ r.network) (λ s. ⊥))
+  pub stopped : StopHasCause (λ engine. MatchAccepted (accepted (file files) words) (λ r. IsOfRun before.disk.log after.disk.log r result engine) (λ s. ⊥))
       before.disk.log after.disk.log before.disk.faults after.disk.faults result
   pub too_much : result ≡ status.TooMuch
       → MatchAccepted (accepted (file files) words) (λ r. KnowsDisk (command_in words) after → 2 ^ 62 ≤ turns_for (command_in words) r) (λ s. ⊥)

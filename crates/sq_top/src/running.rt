@@ -16,6 +16,9 @@ ghost use Rattle.sq_top.specs.Outside.{SinkState, disk_state, outside, sink_stat
 ghost use Rattle.sq_top.specs.Texts.{BeginsSummary};
 ghost use Rattle.sq_drive.specs.Summaries.{summary_of};
 ghost use Rattle.sq_drive.specs.Stopping.{StopHasCause};
+ghost use Rattle.sq_drive.specs.Failing.{IsOfRun};
+ghost use Rattle.sq_queue.specs.Faces as faces;
+ghost use Rattle.sq_sched.specs.Policies.{seed_words};
 ghost use Rattle.sq_drive.specs.Driving.{IsCutShort};
 ghost use Rattle.sq_drive.specs.Due.{due_of, replayed, turns_in, work_in};
 ghost use Rattle.sq_work.specs.SourceFiles.{AreRecorded};
@@ -46,6 +49,8 @@ pub(crate) fn start(alloc: Global, accepted: Accepted) -> Result<(Engine, Policy
     requires frames { 2 ≤ accepted.frames }
     ensures sound { IfOk result (λ e. IsSoundEngine e.0) }
     ensures run { IfOk result (λ e. (pages : Option Pages) (steps : ℕ) → IsRun (replayed (replay_of accepted)) pages e.0 [] steps steps) }
+    ensures frames { IfOk result (λ e. faces.frames (e.0).engine.flow.queues ≡ accepted.frames) }
+    ensures policy { IfOk result (λ e. e.1 ≡ record { rule = accepted.rule; picks = accepted.picks.items; words = seed_words accepted.seed; train = accepted.train }) }
     ensures memory { IfErr result (λ s. s ≡ Status.Memory) }
 {
     let Accepted {
@@ -86,8 +91,8 @@ fn replay<D: PageDisk, S: Sink, L: Ledger>(
     ensures steps { OnOk result (Tells (known (D.log disk.new)) → steps.new ≡ steps.old + work_in (replayed (replay_of accepted))) }
     ensures fewer { OnErr result (Tells (known (D.log disk.new)) → steps.new ≤ steps.old + work_in (replayed (replay_of accepted))) }
     ensures cut { IfErr result (IsCutShort (S.faults out.old) (S.faults out.new)) }
-    ensures stopped { IfErr result (StopHasCause (λ e. e.network ≡ accepted.network)
-        (D.log disk.old) (D.log disk.new) (D.faults disk.old) (D.faults disk.new)) }
+    ensures stopped { IfErr result (λ s. StopHasCause (IsOfRun (D.log disk.old) (D.log disk.new) (replay_of accepted) s)
+        (D.log disk.old) (D.log disk.new) (D.faults disk.old) (D.faults disk.new) s) }
     ensures unchanged { IfErr result (λ s. (D.log disk.old).honest ≡ true → is_changed s ≡ false) }
     ensures garbled { IfErr result (λ s. Tells (known (D.log disk.new)) → is_changed s ≡ true → is_garbled s ≡ true) }
     ensures too_much { IfErr result (λ s. Tells (known (D.log disk.new)) → s ≡ Status.TooMuch → 2 ^ 62 ≤ turns_in (replayed (replay_of accepted))) }
@@ -127,8 +132,8 @@ fn sum_up<D: PageDisk, S: Sink, L: Ledger>(
     ensures steps { OnOk result (Tells (known (D.log disk.new)) → steps.new ≡ steps.old + work_in (replayed (replay_of accepted))) }
     ensures fewer { OnErr result (Tells (known (D.log disk.new)) → steps.new ≤ steps.old + work_in (replayed (replay_of accepted))) }
     ensures cut { IfErr result (IsCutShort (S.faults out.old) (S.faults out.new)) }
-    ensures stopped { IfErr result (StopHasCause (λ e. e.network ≡ accepted.network)
-        (D.log disk.old) (D.log disk.new) (D.faults disk.old) (D.faults disk.new)) }
+    ensures stopped { IfErr result (λ s. StopHasCause (IsOfRun (D.log disk.old) (D.log disk.new) (replay_of accepted) s)
+        (D.log disk.old) (D.log disk.new) (D.faults disk.old) (D.faults disk.new) s) }
     ensures unchanged { IfErr result (λ s. (D.log disk.old).honest ≡ true → is_changed s ≡ false) }
     ensures garbled { IfErr result (λ s. Tells (known (D.log disk.new)) → is_changed s ≡ true → is_garbled s ≡ true) }
     ensures too_much { IfErr result (λ s. Tells (known (D.log disk.new)) → s ≡ Status.TooMuch → 2 ^ 62 ≤ turns_in (replayed (replay_of accepted))) }

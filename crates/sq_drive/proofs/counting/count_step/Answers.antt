@@ -1,10 +1,12 @@
-use Rattle.std.proofs.Common.{◌≡◌, arith, inl, ℕ, refl, subst, sym, None, []}
+use Rattle.std.proofs.Common.{arith, inl, ℕ, refl, subst, sym, None, []}
 use Rattle.sq_pool.specs.Trust.{known}
 use Rattle.sq_drive.specs.Driving.{IsCutShort, Stops}
+use Rattle.sq_drive.specs.Failing.{CameTo}
 use Rattle.sq_drive.specs.Stopping.{StopHasCause}
 use Rattle.sq_drive.proofs.CountingLemmas.{events_here, step_counts, there_all}
 use Rattle.sq_drive.proofs.DrivingLemmas.{if_err, step_lost, step_stops}
 use Rattle.sq_drive.proofs.WritingLemmas.{lost_at_once, on_ok}
+use Rattle.sq_drive.proofs.FailLemmas.{came_at_once, went_once}
 use Rattle.sq_drive.proofs.counting.count_step.Goals as goal
 use Rattle.sq_drive.proofs.StopLemmas.{last_feed, step_cause, step_cut, lost_cut, lost_stop, falls_lower}
 
@@ -36,8 +38,11 @@ returns-in-Err-clause-cut g c before now = subst (IsCutShort before now) (sym c.
 
 pub returns-in-Err-clause-stopped : goal.returns-in-Err-clause-stopped
 returns-in-Err-clause-stopped g c =
-    subst (StopHasCause (λ e. e.network ≡ c.args.engine.now.network) _ _ _ _) (sym c.status_of.ensures)
-    (step_cause _ c.step.new.self _ _ _ _ c.in-Err.e c.step.ensures.network c.in-Err.ensures.failed c.in-Err.ensures.cause (last_feed _ _ _ _ _ _ c.in-Err.ensures.feed))
+    subst
+    (λ s. StopHasCause (CameTo (g.D.PageDisk.log c.args.disk.now) (g.D.PageDisk.log c.step.new.disk) c.args.engine.now s)
+    (g.D.PageDisk.log c.args.disk.now) (g.D.PageDisk.log c.step.new.disk) (g.D.PageDisk.faults c.args.disk.now) (g.D.PageDisk.faults c.step.new.disk) s) (sym c.status_of.ensures)
+    (step_cause _ c.step.new.self _ _ _ _ c.in-Err.e (came_at_once _ _ _ _ _ c.clear.ensures.items _ c.step.ensures.network c.in-Err.ensures.feed) c.in-Err.ensures.failed c.in-Err.ensures.cause
+    (last_feed _ _ _ _ _ _ c.in-Err.ensures.feed))
 
 pub returns-in-Ok-clause-cut : goal.returns-in-Ok-clause-cut
 returns-in-Ok-clause-cut g c =
@@ -46,5 +51,10 @@ returns-in-Ok-clause-cut g c =
 
 pub returns-in-Ok-clause-stopped : goal.returns-in-Ok-clause-stopped
 returns-in-Ok-clause-stopped g c =
-    if_err (StopHasCause (λ e. e.network ≡ c.args.engine.now.network) (g.D.PageDisk.log c.args.disk.now) (g.D.PageDisk.log c.step.new.disk) (g.D.PageDisk.faults c.args.disk.now) (g.D.PageDisk.faults c.step.new.disk)) c.count_events.result
+    if_err
+    (λ s. StopHasCause (CameTo (g.D.PageDisk.log c.args.disk.now) (g.D.PageDisk.log c.step.new.disk) c.args.engine.now s)
+    (g.D.PageDisk.log c.args.disk.now) (g.D.PageDisk.log c.step.new.disk) (g.D.PageDisk.faults c.args.disk.now) (g.D.PageDisk.faults c.step.new.disk) s) c.count_events.result
     c.count_events.ensures.memory (λ s memory. lost_stop _ _ _ _ _ 0 0 s (inl memory))
+
+pub returns-in-Ok-clause-left : goal.returns-in-Ok-clause-left
+returns-in-Ok-clause-left g c = on_ok c.count_events.result c.count_events.ensures.ok (λ counted. went_once _ _ _ _ _ _ c.clear.ensures.items c.in-Ok.ensures.goes)

@@ -1,7 +1,9 @@
-use Rattle.std.proofs.Common.{refl, arith, inl, ◌∙◌}
+use Rattle.std.proofs.Common.{[], refl, arith, inl, ◌∙◌}
 use Rattle.sq_pool.specs.Trust.{known}
 use Rattle.sq_pool.proofs.TrustLemmas.{IsLater-refl, IsLater-trans}
 use Rattle.sq_drive.proofs.CountingLemmas.{count_ends, count_stops, count_waits, counts_none, counts_then, same_room}
+use Rattle.sq_drive.proofs.FailLemmas.{came_then, went_then}
+use Rattle.sq_drive.proofs.LeftLemmas.{stepped_none}
 use Rattle.sq_flow.proofs.CauseLemmas.{page-since}
 use Rattle.sq_work.proofs.StoppedLemmas.{rose_later}
 use Rattle.sq_drive.proofs.counting.count_to_end.Goals as goal
@@ -23,6 +25,7 @@ steps-init g c = record {
   network = refl;
   later = IsLater-refl _;
   goes = counts_none _ _ _ _;
+  left = record { shown = []; stepped = stepped_none _ _ c.requires.sound c.requires.together };
   faults = omega arith;
 }
 
@@ -39,6 +42,7 @@ steps-preserved g c =
       network = c.count_step.ensures.network ∙ before.network;
       later = IsLater-trans _ _ _ before.later c.count_step.ensures.later;
       goes = counts_then _ _ _ _ _ _ _ _ _ _ _ _ before.goes before.network c.in-Ok-count_step.ensures.ok;
+      left = went_then _ _ _ _ before.left _ _ c.in-Ok-count_step.ensures.left;
       faults = omega (arith, before.faults, c.count_step.ensures.faults);
     }
 
@@ -52,7 +56,7 @@ returns-in-Err-count_step-clause-later g c = IsLater-trans _ _ _ c.steps.invaria
 pub returns-in-Err-count_step-clause-stopped : goal.returns-in-Err-count_step-clause-stopped
 returns-in-Err-count_step-clause-stopped g c =
     let before = c.steps.invariant in
-    stop_map _ _ _ _ _ _ _ _ _ _ c.in-Err-count_step.status (rose_later 1 _ _ _ before.faults) (λ queues e. page-since queues _ _ _ e before.later) (λ e same. same ∙ before.network) c.in-Err-count_step.ensures.stopped
+    stop_map _ _ _ _ _ _ _ _ _ _ c.in-Err-count_step.status (rose_later 1 _ _ _ before.faults) (λ queues e. page-since queues _ _ _ e before.later) (λ e came. came_then _ _ _ _ _ _ _ before.later before.left before.network came) c.in-Err-count_step.ensures.stopped
 
 pub all_shown-requires-clause-done : goal.all_shown-requires-clause-done
 all_shown-requires-clause-done g c = c.steps-test.ensures.done c.steps.invariant.sound.engine.running refl

@@ -4,6 +4,7 @@ use Rattle.sq_queue.specs.Faces.{Together}
 use Rattle.sq_flow.specs.Flows.{measure_of}
 use Rattle.sq_core.specs.Runs.{IsSoundEngine}
 use Rattle.sq_drive.specs.Counting.{CountsOn}
+use Rattle.sq_drive.specs.Failing.{WentOn}
 use Rattle.sq_drive.proofs.counting.count_to_end.Given as goal
 
 abbrev pub invariant-steps : goal.invariant-steps
@@ -13,6 +14,7 @@ invariant-steps g l = record {
   network : l.engine.network ≡ l.fn.engine.network;
   later : IsLater (g.D.PageDisk.log l.fn.disk) (g.D.PageDisk.log l.disk);
   goes : CountsOn (known (g.D.PageDisk.log l.fn.disk)) (known (g.D.PageDisk.log l.disk)) l.fn.engine l.engine l.fn.steps l.steps l.initial.counts l.counts;
+  left : WentOn (known (g.D.PageDisk.log l.fn.disk)) (known (g.D.PageDisk.log l.disk)) l.fn.engine l.engine;
   faults : g.D.PageDisk.faults l.fn.disk ≤ g.D.PageDisk.faults l.disk;
 }
 

@@ -48,7 +48,7 @@ returns-in-Err-clause-cut g c = cut_later _ _ _ _ c.steps.invariant.sink_faults 
 pub returns-in-Err-clause-stopped : goal.returns-in-Err-clause-stopped
 returns-in-Err-clause-stopped g c =
     let before = c.steps.invariant in
-    stop_map _ _ _ _ _ _ _ _ _ _ c.in-Err.status (rose_later 1 _ _ _ before.disk_faults) (λ queues e. page-since queues _ _ _ e before.later) (λ e both. (both.0, came_then _ _ _ _ _ _ _ _ _ _ _ before.later before.left before.network both.1)) c.in-Err.ensures.stopped
+    stop_map _ _ _ _ _ _ _ _ _ _ c.in-Err.status (rose_later 1 _ _ _ before.disk_faults) (λ queues e. page-since queues _ _ _ e before.later) (λ e both. (both.0, came_then _ _ _ _ _ _ _ before.later (record { shown = before.left.events; stepped = before.left.left }) before.network both.1)) c.in-Err.ensures.stopped
 
 pub returns-clause-cut : goal.returns-clause-cut
 returns-clause-cut g c = lost_cut _ _ _ _ c.steps.invariant.sink_faults c.in-Err-send.ensures.lost

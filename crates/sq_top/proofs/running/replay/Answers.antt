@@ -7,6 +7,7 @@ use Rattle.sq_status.specs.declared.Status.TheVariants as status
 use Rattle.sq_drive.specs.Driving.{IsCutShort}
 use Rattle.sq_drive.specs.Due.{replayed, turns_in}
 use Rattle.sq_drive.specs.Stopping.{StopHasCause}
+use Rattle.sq_drive.specs.Failing.{IsOfRun}
 use Rattle.sq_drive.proofs.DrivingLemmas.{if_err, not_too_much}
 use Rattle.sq_top.proofs.ReplayLemmas.{replay_cut, replay_ends, replay_halts, replay_waits}
 use Rattle.sq_drive.proofs.WritingLemmas.{on_err, on_ok}
@@ -75,7 +76,8 @@ returns-in-Err-drive-clause-unchanged g c is-honest =
 
 pub returns-in-Err-drive-clause-stopped : goal.returns-in-Err-drive-clause-stopped
 returns-in-Err-drive-clause-stopped g c =
-    stop_map _ _ _ _ _ _ _ _ _ _ c.in-Err-drive.status (λ rose. rose) (λ queues e back. back) (λ e came. came.network ∙ (c.in-Ok.ensures.run (known (g.D.PageDisk.log c.args.disk.now)) c.args.steps.now).network) c.in-Err-drive.ensures.stopped
+    stop_map _ _ _ _ _ _ _ _ _ _ c.in-Err-drive.status (λ rose. rose) (λ queues e back. back)
+    (λ e came. record { begun = c.in-Ok.started.0; new = c.in-Ok.ensures.run; framed = c.in-Ok.ensures.frames; came = came }) c.in-Err-drive.ensures.stopped
 
 pub returns-in-Ok-drive-clause-cut : goal.returns-in-Ok-drive-clause-cut
 returns-in-Ok-drive-clause-cut g c =
@@ -84,7 +86,9 @@ returns-in-Ok-drive-clause-cut g c =
 
 pub returns-in-Ok-drive-clause-stopped : goal.returns-in-Ok-drive-clause-stopped
 returns-in-Ok-drive-clause-stopped g c =
-    if_err (StopHasCause (λ e. e.network ≡ c.args.accepted.network) (g.D.PageDisk.log c.args.disk.now) (g.D.PageDisk.log c.drive.new.disk) (g.D.PageDisk.faults c.args.disk.now) (g.D.PageDisk.faults c.drive.new.disk)) c.write_ends.result
+    if_err
+    (λ s. StopHasCause (IsOfRun (g.D.PageDisk.log c.args.disk.now) (g.D.PageDisk.log c.drive.new.disk) (replay_of c.args.accepted) s)
+    (g.D.PageDisk.log c.args.disk.now) (g.D.PageDisk.log c.drive.new.disk) (g.D.PageDisk.faults c.args.disk.now) (g.D.PageDisk.faults c.drive.new.disk) s) c.write_ends.result
     c.write_ends.ensures.lost (λ s lost. lost_stop _ _ _ _ _ _ _ s lost)
 
 pub returns-in-Ok-drive-clause-unchanged : goal.returns-in-Ok-drive-clause-unchanged

@@ -7,6 +7,7 @@ use Rattle.sq_top.specs.Texts.{BeginsSummary}
 use Rattle.sq_drive.specs.Driving.{IsCutShort}
 use Rattle.sq_drive.specs.Due.{replayed, turns_in}
 use Rattle.sq_drive.specs.Stopping.{StopHasCause}
+use Rattle.sq_drive.specs.Failing.{IsOfRun}
 use Rattle.sq_drive.proofs.DrivingLemmas.{if_err, if_err_both, not_too_much}
 use Rattle.sq_top.proofs.SummaryLemmas.{summary_cut, summary_ends, summary_waits}
 use Rattle.sq_drive.proofs.WritingLemmas.{on_err, on_ok}
@@ -76,7 +77,8 @@ returns-in-Err-count-clause-cut g c = c.in-Err-count.ensures.cut _ _
 
 pub returns-in-Err-count-clause-stopped : goal.returns-in-Err-count-clause-stopped
 returns-in-Err-count-clause-stopped g c =
-    stop_map _ _ _ _ _ _ _ _ _ _ c.in-Err-count.status (λ rose. rose) (λ queues e back. back) (λ e same. same ∙ (c.in-Ok.ensures.run (known (g.D.PageDisk.log c.args.disk.now)) c.args.steps.now).network) c.in-Err-count.ensures.stopped
+    stop_map _ _ _ _ _ _ _ _ _ _ c.in-Err-count.status (λ rose. rose) (λ queues e back. back)
+    (λ e came. record { begun = c.in-Ok.started.0; new = c.in-Ok.ensures.run; framed = c.in-Ok.ensures.frames; came = came }) c.in-Err-count.ensures.stopped
 
 pub returns-in-Ok-count-clause-cut : goal.returns-in-Ok-count-clause-cut
 returns-in-Ok-count-clause-cut g c =
@@ -85,7 +87,9 @@ returns-in-Ok-count-clause-cut g c =
 
 pub returns-in-Ok-count-clause-stopped : goal.returns-in-Ok-count-clause-stopped
 returns-in-Ok-count-clause-stopped g c =
-    if_err (StopHasCause (λ e. e.network ≡ c.args.accepted.network) (g.D.PageDisk.log c.args.disk.now) (g.D.PageDisk.log c.count.new.disk) (g.D.PageDisk.faults c.args.disk.now) (g.D.PageDisk.faults c.count.new.disk)) c.write_summary.result
+    if_err
+    (λ s. StopHasCause (IsOfRun (g.D.PageDisk.log c.args.disk.now) (g.D.PageDisk.log c.count.new.disk) (replay_of c.args.accepted) s)
+    (g.D.PageDisk.log c.args.disk.now) (g.D.PageDisk.log c.count.new.disk) (g.D.PageDisk.faults c.args.disk.now) (g.D.PageDisk.faults c.count.new.disk) s) c.write_summary.result
     c.write_summary.ensures.lost (λ s lost. lost_stop _ _ _ _ _ _ _ s lost)
 
 pub returns-in-Ok-count-clause-unchanged : goal.returns-in-Ok-count-clause-unchanged
