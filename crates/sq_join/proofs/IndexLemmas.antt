@@ -1,21 +1,22 @@
 -- What an index tells of a list that grows at its end and goes at its front, and that each pair that passes is found by it.
-use Rattle.std.proofs.Common.{◌≡◌, ℕ, zero, suc, ◌+◌, ◌-◌, ◌%◌, ◌^◌, ◌<◌, ◌≤◌, ◌==◌, Bool, true, false, cond, List, [], ◌∷◌, ◌++◌, length, drop, refl, ap, sym, subst, ◌∙◌, Option, None, Some, append_assoc, arith, tests}
-use Rattle.std.specs.Prelude.{if◌then◌else◌, slice_get, IfSome, MatchOption, Result, Ok, Err, OnOk}
+use Rattle.std.proofs.Common.{◌≡◌, ℕ, zero, suc, ◌+◌, ◌-◌, ◌^◌, ◌<◌, ◌≤◌, ◌==◌, Bool, true, false, cond, List, [], ◌∷◌, ◌++◌, length, drop, refl, ap, sym, subst, ◌∙◌, Option, None, Some, append_assoc, arith, tests}
+use Rattle.std.specs.Prelude.{if◌then◌else◌, slice_get, Result, Ok, Err, OnOk}
 use Rattle.std.specs.declared.collections.VecDeque.{VecDeque}
 use Rattle.std.specs.declared.alloc.Global.{Global}
-use Rattle.std.proofs.lemmas.List.{length_push, get_or_append_left, get_or-append-add}
+use Rattle.std.proofs.lemmas.Bool.{false_from_ne_true}
+use Rattle.std.proofs.lemmas.List.{length_push}
 use Rattle.std.specs.Option.{option_to_list}
 use Rattle.std.specs.List.{AllByRecursion, filter}
-use Rattle.sq_value.specs.declared.Value.TheVariants as value
 use Rattle.sq_value.specs.declared.Tuple.{Tuple}
-use Rattle.sq_value.specs.Values.{field}
+use Rattle.sq_aggfn.specs.Groups.{group_of}
 use Rattle.sq_expr.specs.Trees.{Expr}
 use Rattle.sq_expr.specs.Expressions.{holds_of, pair_of}
 use Rattle.sq_lists.specs.Sides.{against, pair_at, pairs_with}
 use Rattle.sq_join.specs.declared.index.Index.{Index}
 use Rattle.sq_join.specs.declared.side_indexes.SideIndexes.{SideIndexes}
-use Rattle.sq_join.specs.EqualFields.{Equates}
-use Rattle.sq_join.specs.Indexes.{positions_in, magnitude_of, belongs_at, positions, positions_in_row, row_count, index_against, index_of, IsIndex, IsOfSamePlace, AreIndexes, MayIndex, HasPassing}
+use Rattle.sq_join.specs.Codes.{key_code, row_at_code}
+use Rattle.sq_join.proofs.KeyLemmas.{code-some}
+use Rattle.sq_join.specs.Indexes.{positions_in, belongs, belongs_at, positions, positions_in_row, row_count, index_against, index_of, IsIndex, IsOfSamePlaces, AreIndexes, MayIndex, HasPassing}
 use Rattle.sq_words.proofs.Alls.{all_filter, all_push, all_weaker}
 use Rattle.sq_item.specs.Things.{Thing}
 use Rattle.sq_oper.specs.Streams.{things, at_zero}
@@ -51,8 +52,8 @@ rows-push rows new more is none bare row = rw is (bare-push rows more none bare 
 
 -- a tuple was put behind the others
 pub IsIndex-push : (held : List Tuple) (x : Tuple) (before after : Index) (at : ℕ) → at ≡ before.first + length held → at + 1 < 2 ^ 64 → IsIndex held before
-    → IsOfSamePlace before after → after.first ≡ before.first → row_count after ≡ row_count before → length x.fields ≡ before.width
-    → ((row : ℕ) → row < row_count before → positions_in_row after row ≡ positions_in_row before row ++ (if belongs_at before.place (row_count before) row x then at ∷ [] else []))
+    → IsOfSamePlaces before after → after.first ≡ before.first → row_count after ≡ row_count before → length x.fields ≡ before.width
+    → ((row : ℕ) → row < row_count before → positions_in_row after row ≡ positions_in_row before row ++ (if belongs_at before.places.items (row_count before) row x then at ∷ [] else []))
     → IsIndex (held ++ x ∷ []) after
 IsIndex-push held x before after at is fits index same first count wide put =
     let n : length (held ++ x ∷ []) ≡ length held + 1 = length_push held x in record {
@@ -60,8 +61,8 @@ IsIndex-push held x before after at is fits index same first count wide put =
           let low' : row < row_count before = omega (arith, count, low) in
           rw (same.0, first, count)
           (put row low'
-          ∙ ap (λ l. l ++ (if belongs_at before.place (row_count before) row x then at ∷ [] else [])) (index.rows row low')
-          ∙ rw is (sym (positions-push (belongs_at before.place (row_count before) row) before.first held x)));
+          ∙ ap (λ l. l ++ (if belongs_at before.places.items (row_count before) row x then at ∷ [] else [])) (index.rows row low')
+          ∙ rw is (sym (positions-push (belongs_at before.places.items (row_count before) row) before.first held x)));
       even = λ some. rw same.1 (all_push (λ y. length y.fields ≡ before.width) held x (index.even (omega (arith, count, some))) wide);
       fits = omega (arith, n, is, fits, first);
     }
@@ -76,43 +77,55 @@ IsIndex-bare held index none fits = record {
 
 -- ---- what passes is found
 
-equal-fields : (on : Expr) (place width other : ℕ) (l r : Tuple) → Equates on (place, width + other) → place < width → length l.fields ≡ width
-    → holds_of on (pair_of l r) ≡ true → field l.fields place ≡ field r.fields other
-equal-fields on place width other l r equates low wide holds =
-    let first : field (pair_of l r).fields place ≡ field l.fields place = get_or_append_left l.fields r.fields value.Null place (omega (arith, low, wide)) in
-    let second : field (pair_of l r).fields (length l.fields + other) ≡ field r.fields other = get_or-append-add l.fields r.fields other value.Null in
-    sym first ∙ equates (pair_of l r) holds ∙ (rw wide at second)
+belongs-found : (places : List ℕ) (rows row : ℕ) (y : Tuple) (code : ℕ) → key_code (group_of places y) ≡ Some code → row ≡ row_at_code rows code → belongs_at places rows row y ≡ true
+belongs-found places rows row y code at is = ap (belongs rows row) at ∙ rw is (grind (arith, tests))
 
-belongs-found : (place rows row : ℕ) (y : Tuple) (magnitude : ℕ) → magnitude_of (field y.fields place) ≡ Some magnitude → row ≡ magnitude % rows → belongs_at place rows row y ≡ true
-belongs-found place rows row y magnitude at is = rw (at, is) (grind (arith, tests))
-
-module _ (on : Expr) (left right : List Tuple) (indexes : SideIndexes) (are : AreIndexes on left right indexes) (x : Tuple) (magnitude : ℕ) (row : ℕ) where
-  by-side : (b : Bool) → length x.fields ≡ (if b then indexes.left else indexes.right).width → magnitude_of (field x.fields (if b then indexes.left else indexes.right).place) ≡ Some magnitude
-      → row ≡ magnitude % row_count (if b then indexes.right else indexes.left) → row < row_count (if b then indexes.right else indexes.left)
+module _ (on : Expr) (left right : List Tuple) (indexes : SideIndexes) (are : AreIndexes on left right indexes) (x : Tuple) where
+  by-side : (b : Bool) (code row : ℕ) → length x.fields ≡ (if b then indexes.left else indexes.right).width → key_code (group_of (if b then indexes.left else indexes.right).places.items x) ≡ Some code
+      → row ≡ row_at_code (row_count (if b then indexes.right else indexes.left)) code → row < row_count (if b then indexes.right else indexes.left)
       → AllByRecursion (λ y. holds_of on (if b then pair_of x y else pair_of y x) ≡ true
-      → belongs_at (if b then indexes.right else indexes.left).place (row_count (if b then indexes.right else indexes.left)) row y ≡ true) (if b then right else left)
-  by-side true wide at is low =
-      all_weaker (λ y. length y.fields ≡ indexes.right.width) (λ y. holds_of on (pair_of x y) ≡ true → belongs_at indexes.right.place (row_count indexes.right) row y ≡ true)
-      (λ y _ holds.
-      belongs-found indexes.right.place (row_count indexes.right) row y magnitude
-      (ap magnitude_of (sym (equal-fields on indexes.left.place indexes.left.width indexes.right.place x y are.equates are.within wide holds)) ∙ at) is)
+      → belongs_at (if b then indexes.right else indexes.left).places.items (row_count (if b then indexes.right else indexes.left)) row y ≡ true) (if b then right else left)
+  by-side true code row wide at is low =
+      all_weaker (λ y. length y.fields ≡ indexes.right.width) (λ y. holds_of on (pair_of x y) ≡ true → belongs_at indexes.right.places.items (row_count indexes.right) row y ≡ true)
+      (λ y _ holds. belongs-found indexes.right.places.items (row_count indexes.right) row y code (ap key_code (sym (are.equates x y wide holds).0) ∙ at) is)
       right (are.both.1.even (omega (arith, low)))
-  by-side false wide at is low =
-      all_weaker (λ y. length y.fields ≡ indexes.left.width) (λ y. holds_of on (pair_of y x) ≡ true → belongs_at indexes.left.place (row_count indexes.left) row y ≡ true)
-      (λ y even holds.
-      belongs-found indexes.left.place (row_count indexes.left) row y magnitude
-      (ap magnitude_of (equal-fields on indexes.left.place indexes.left.width indexes.right.place y x are.equates are.within even holds) ∙ at) is)
+  by-side false code row wide at is low =
+      all_weaker (λ y. length y.fields ≡ indexes.left.width) (λ y. holds_of on (pair_of y x) ≡ true → belongs_at indexes.left.places.items (row_count indexes.left) row y ≡ true)
+      (λ y even holds. belongs-found indexes.left.places.items (row_count indexes.left) row y code (ap key_code (are.equates y x even holds).0 ∙ at) is)
       left (are.both.0.even (omega (arith, low)))
 
--- the row of the number of a tuple that comes
-pub row-found : (on : Expr) (left right : List Tuple) (indexes : SideIndexes) (side : ℕ) (x : Tuple) (magnitude : ℕ) (r : Option ℕ) (own other : Index)
+  alone : (b : Bool) → length x.fields ≡ (if b then indexes.left else indexes.right).width → key_code (group_of (if b then indexes.left else indexes.right).places.items x) ≡ None
+      → 0 < row_count (if b then indexes.right else indexes.left)
+      → AllByRecursion (λ y. holds_of on (if b then pair_of x y else pair_of y x) ≡ false) (if b then right else left)
+  alone true wide at low =
+      all_weaker (λ y. length y.fields ≡ indexes.right.width) (λ y. holds_of on (pair_of x y) ≡ false)
+      (λ y _. false_from_ne_true (holds_of on (pair_of x y)) (λ holds. code-some (group_of indexes.left.places.items x) (are.equates x y wide holds).1 at))
+      right (are.both.1.even low)
+  alone false wide at low =
+      all_weaker (λ y. length y.fields ≡ indexes.left.width) (λ y. holds_of on (pair_of y x) ≡ false)
+      (λ y even. false_from_ne_true (holds_of on (pair_of y x)) (λ holds.
+      code-some (group_of indexes.left.places.items y) (are.equates y x even holds).1 (ap key_code (are.equates y x even holds).0 ∙ at)))
+      left (are.both.0.even low)
+
+-- the row of the key of a tuple that comes
+pub row-found : (on : Expr) (left right : List Tuple) (indexes : SideIndexes) (side : ℕ) (x : Tuple) (code row : ℕ) (own other : Index)
     → own ≡ index_of side indexes → other ≡ index_against side indexes → AreIndexes on left right indexes
-    → length x.fields ≡ own.width → magnitude_of (field x.fields own.place) ≡ Some magnitude
-    → MatchOption r (row_count other ≡ 0) (λ row. (row < row_count other) × (row ≡ magnitude % row_count other))
-    → IfSome r (HasPassing on side x (against side left right) (index_against side indexes))
-row-found on left right indexes side x magnitude None own other is-own is-other are wide at h = tt
-row-found on left right indexes side x magnitude (Some row) own other is-own is-other are wide at h =
-    (rw is-other at h.0, by-side on left right indexes are x magnitude row (side == 0) (rw is-own at wide) (rw is-own at at) (rw is-other at h.1) (rw is-other at h.0))
+    → length x.fields ≡ own.width → key_code (group_of own.places.items x) ≡ Some code → (row < row_count other) × (row ≡ row_at_code (row_count other) code)
+    → HasPassing on side x (against side left right) (index_against side indexes) row
+row-found on left right indexes side x code row own other is-own is-other are wide at h =
+    (rw is-other at h.0, by-side on left right indexes are x (side == 0) code row (rw is-own at wide) (rw is-own at at) (rw is-other at h.1) (rw is-other at h.0))
+
+-- a tuple whose key has Null passes with none
+pub none-found : (on : Expr) (left right : List Tuple) (indexes : SideIndexes) (side : ℕ) (x : Tuple) (own other : Index)
+    → own ≡ index_of side indexes → other ≡ index_against side indexes → AreIndexes on left right indexes
+    → length x.fields ≡ own.width → key_code (group_of own.places.items x) ≡ None → 0 < row_count other
+    → AllByRecursion (λ y. holds_of on (pair_at side x y) ≡ false) (against side left right)
+none-found on left right indexes side x own other is-own is-other are wide at low =
+    alone on left right indexes are x (side == 0) (rw is-own at wide) (rw is-own at at) (rw is-other at low)
+
+pub pairs-none : (on : Expr) (side : ℕ) (x : Tuple) (ys : List Tuple) → AllByRecursion (λ y. holds_of on (pair_at side x y) ≡ false) ys → pairs_with on side x ys ≡ []
+pairs-none on side x [] all = refl
+pairs-none on side x (y ∷ ys) all = rw all.0 (pairs-none on side x ys all.1)
 
 -- ---- the tuples of a row
 
@@ -170,14 +183,14 @@ pairs-passing on side x test (y ∷ ys) all =
 pub row-pairs : (on : Expr) (side : ℕ) (x : Tuple) (others : List Tuple) (index : Index) (row : ℕ) (ps : List ℕ) → IsIndex others index → HasPassing on side x others index row
     → positions_in_row index row ≡ ps → pairs_with on side x (standing_at index.first others ps) ≡ pairs_with on side x others
 row-pairs on side x others index row ps is has at =
-    let test : Tuple → Bool = belongs_at index.place (row_count index) row in
+    let test : Tuple → Bool = belongs_at index.places.items (row_count index) row in
     let listed : ps ≡ positions test index.first others = sym at ∙ is.rows row has.0 in
     rw listed (ap (pairs_with on side x) (tuples-at-positions test index.first others) ∙ pairs-passing on side x test others has.1)
 
 pub row-all : (P : Tuple → Type 0) (others : List Tuple) (index : Index) (row : ℕ) (ps : List ℕ) → IsIndex others index → row < row_count index
     → positions_in_row index row ≡ ps → AllByRecursion P others → AllByRecursion P (standing_at index.first others ps)
 row-all P others index row ps is low at all =
-    let test : Tuple → Bool = belongs_at index.place (row_count index) row in
+    let test : Tuple → Bool = belongs_at index.places.items (row_count index) row in
     let listed : standing_at index.first others ps ≡ filter test others =
     ap (standing_at index.first others) (sym at ∙ is.rows row low) ∙ tuples-at-positions test index.first others in
     subst (AllByRecursion P) (sym listed) (all_filter P test others all)
@@ -186,7 +199,7 @@ pub row-within : (others : List Tuple) (index : Index) (row : ℕ) (ps : List �
     → AllByRecursion (λ p. (index.first ≤ p) × (p < index.first + length others)) ps
 row-within others index row ps is low at =
     subst (AllByRecursion (λ p. (index.first ≤ p) × (p < index.first + length others))) (sym (is.rows row low) ∙ at)
-    (positions-within (belongs_at index.place (row_count index) row) index.first others)
+    (positions-within (belongs_at index.places.items (row_count index) row) index.first others)
 
 pub tuples-step : (first : ℕ) (others : List Tuple) (ps : List ℕ) (i p : ℕ) (y : Tuple) → drop i ps ≡ p ∷ drop (i + 1) ps → slice_get others (p - first) ≡ Some y
     → standing_at first others (drop i ps) ≡ y ∷ standing_at first others (drop (i + 1) ps)
@@ -208,6 +221,15 @@ given-step on side x y rest left q before after all is gave so-far =
     ap (λ l. at_zero q (things (pairs_with on side x l))) is ∙ ap (λ l. at_zero q (things l)) (pairs-split on side x y rest)
     ∙ ap (at_zero q) (things-append one more) ∙ at_zero-append q (things one) (things more) in
     ap (λ l. l ++ at_zero q (things more)) gave ∙ append_assoc before (at_zero q (things one)) (at_zero q (things more)) ∙ ap (λ l. before ++ l) (sym split) ∙ so-far
+
+-- the same, where pairs are put behind others
+pub pushed-step : (on : Expr) (side : ℕ) (x y : Tuple) (rest left before after all : List Tuple) → left ≡ y ∷ rest → after ≡ before ++ pairs_with on side x (y ∷ [])
+    → before ++ pairs_with on side x left ≡ all → after ++ pairs_with on side x rest ≡ all
+pushed-step on side x y rest left before after all is gave so-far =
+    let one = pairs_with on side x (y ∷ []) in
+    let more = pairs_with on side x rest in
+    let split : pairs_with on side x left ≡ one ++ more = ap (pairs_with on side x) is ∙ pairs-split on side x y rest in
+    ap (λ l. l ++ more) gave ∙ append_assoc before one more ∙ ap (λ l. before ++ l) (sym split) ∙ so-far
 
 -- what is held where a call went well
 pub OnOk-held : {T E : Type 0} (r : Result T E) (on : Expr) (indexes : Option SideIndexes) (left left' right right' : List Tuple) → OnOk r (left' ≡ left) → OnOk r (right' ≡ right)

@@ -1,3 +1,4 @@
+pub mod KeyLemmas
 pub mod EqualLemmas
 pub mod IndexLemmas
 pub mod TurnLemmas

@@ -1,34 +1,28 @@
--- Where the tuples that are held of a side stand, by their numbers at a place.
-use Rattle.std.specs.Prelude.{◌≡◌, ℕ, suc, ◌+◌, ◌-◌, ◌%◌, ◌^◌, ◌==◌, ◌<◌, unsigned_abs, Bool, true, false, if◌then◌else◌, List, [], ◌∷◌, ◌++◌, length, Option, Some, None, IfSome, slice_get}
+-- Where the tuples that are held of a side stand, by their keys.
+use Rattle.std.specs.Prelude.{◌≡◌, ℕ, suc, ◌+◌, ◌^◌, ◌==◌, ◌<◌, Bool, true, false, if◌then◌else◌, List, [], ◌∷◌, length, Option, Some, None, IfSome, slice_get, ⊤}
 use Rattle.std.specs.declared.collections.VecDeque.{VecDeque}
 use Rattle.std.specs.List.{AllByRecursion}
 use Rattle.std.specs.declared.alloc.Global.{Global}
-use Rattle.sq_value.specs.declared.Value.{Value}
-use Rattle.sq_value.specs.declared.Value.TheVariants as value
 use Rattle.sq_value.specs.declared.Tuple.{Tuple}
-use Rattle.sq_value.specs.Values.{field}
+use Rattle.sq_aggfn.specs.Groups.{group_of}
 use Rattle.sq_expr.specs.Trees.{Expr}
 use Rattle.sq_expr.specs.Expressions.{holds_of}
 use Rattle.sq_lists.specs.Sides.{pair_at}
 use Rattle.sq_join.specs.declared.index.Index.{Index}
 use Rattle.sq_join.specs.declared.side_indexes.SideIndexes.{SideIndexes}
-use Rattle.sq_join.specs.EqualFields.{Equates}
+use Rattle.sq_join.specs.declared.side_indexes.Candidates.{Candidates}
+use Rattle.sq_join.specs.declared.side_indexes.Candidates.TheVariants as candidates
+use Rattle.sq_join.specs.EqualFields.{EquatesKeys}
+use Rattle.sq_join.specs.Codes.{key_code, row_at_code}
 
--- a number's magnitude
-abbrev pub magnitude_of : Value → Option ℕ
-magnitude_of value.Null = None
-magnitude_of (value.Int number) = Some (unsigned_abs number)
-magnitude_of (value.Bool b) = None
-magnitude_of (value.Text t) = None
-
--- whether a number of this magnitude, where there is one, belongs in a row, of so many
+-- whether a key of this code, where it has one, belongs in a row, of so many
 abbrev pub belongs : ℕ → ℕ → Option ℕ → Bool
 belongs rows row None = false
-belongs rows row (Some magnitude) = magnitude % rows == row
+belongs rows row (Some code) = row_at_code rows code == row
 
--- whether the number at a place of a tuple belongs in a row, of so many
-abbrev pub belongs_at : ℕ → ℕ → ℕ → Tuple → Bool
-belongs_at place rows row x = belongs rows row (magnitude_of (field x.fields place))
+-- whether the key of a tuple belongs in a row, of so many
+abbrev pub belongs_at : List ℕ → ℕ → ℕ → Tuple → Bool
+belongs_at places rows row x = belongs rows row (key_code (group_of places x))
 
 -- the positions of the tuples for which a test is true; the first stands at this one
 abbrev pub positions : (Tuple → Bool) → ℕ → List Tuple → List ℕ
@@ -48,22 +42,21 @@ positions_in_row index row = positions_in (slice_get index.rows.items row)
 
 -- an index tells of each row the positions of those that belong there
 pub record IsIndex (held : List Tuple) (index : Index) : Type 0 where
-  pub rows : (row : ℕ) → row < row_count index → positions_in_row index row ≡ positions (belongs_at index.place (row_count index) row) index.first held
+  pub rows : (row : ℕ) → row < row_count index → positions_in_row index row ≡ positions (belongs_at index.places.items (row_count index) row) index.first held
   pub even : 0 < row_count index → AllByRecursion (λ x. length x.fields ≡ index.width) held
   pub fits : index.first + length held < 2 ^ 64
 
--- two indexes are of the same place
-abbrev pub IsOfSamePlace : Index → Index → Type 0
-IsOfSamePlace before after = (after.place ≡ before.place) × (after.width ≡ before.width)
+-- two indexes are of the same places
+abbrev pub IsOfSamePlaces : Index → Index → Type 0
+IsOfSamePlaces before after = (after.places ≡ before.places) × (after.width ≡ before.width)
 
 -- there is an index of each side
 abbrev pub AreOf : List Tuple → List Tuple → SideIndexes → Type 0
 AreOf left right indexes = IsIndex left indexes.left × IsIndex right indexes.right
 
--- the same, of places that a predicate equates
+-- the same, of keys that a predicate equates
 pub record AreIndexes (on : Expr) (left right : List Tuple) (indexes : SideIndexes) : Type 0 where
-  pub equates : Equates on (indexes.left.place, indexes.left.width + indexes.right.place)
-  pub within : indexes.left.place < indexes.left.width
+  pub equates : EquatesKeys on indexes.left.width indexes.left.places.items indexes.right.places.items
   pub both : AreOf left right indexes
 
 -- the same, where there are indexes
@@ -73,7 +66,13 @@ MayIndex on left right indexes = IfSome indexes (AreIndexes on left right)
 -- each of these tuples with which one passes belongs in a row
 abbrev pub HasPassing : Expr → ℕ → Tuple → List Tuple → Index → ℕ → Type 0
 HasPassing on side x held index row =
-    (row < row_count index) × AllByRecursion (λ y. holds_of on (pair_at side x y) ≡ true → belongs_at index.place (row_count index) row y ≡ true) held
+    (row < row_count index) × AllByRecursion (λ y. holds_of on (pair_at side x y) ≡ true → belongs_at index.places.items (row_count index) row y ≡ true) held
+
+-- those with which a tuple may pass
+abbrev pub AreCandidates : Expr → ℕ → Tuple → List Tuple → Index → Candidates → Type 0
+AreCandidates on side x held index candidates.All = ⊤
+AreCandidates on side x held index (candidates.InRow row) = HasPassing on side x held index row
+AreCandidates on side x held index candidates.Nobody = AllByRecursion (λ y. holds_of on (pair_at side x y) ≡ false) held
 
 -- of two indexes, that of what stands against a side
 abbrev pub index_against : ℕ → SideIndexes → Index

@@ -1,3 +1,4 @@
+pub mod Codes
 pub mod EqualFields
 pub mod Elements
 pub mod Sides

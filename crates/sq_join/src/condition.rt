@@ -1,7 +1,7 @@
 //! What a pair has to pass.
 
 ghost use Rattle.std.specs.Prelude.{◌≡◌, ◌++◌, ◌∷◌, [], IfOk, IfSome, false, length, take, true};
-ghost use Rattle.std.specs.List.{filter};
+ghost use Rattle.std.specs.List.{AllByRecursion, filter};
 ghost use Rattle.std.specs.Option.{option_to_list};
 ghost use Rattle.sq_value.specs.declared.Value.{Value as V};
 ghost use Rattle.sq_value.specs.Values.{field};
@@ -112,11 +112,11 @@ impl Condition {
         Condition { on, equal }
     }
 
-    /// The two places of a pair.
-    pub(crate) fn equated(&self) -> Option<(usize, usize)>
-        ensures { IfSome result (Equates self.now.tree) }
+    /// Each two places of a pair that the predicate equates.
+    pub(crate) fn equated(&self, alloc: Global) -> Result<Vec<(usize, usize)>, AllocError>
+        ensures { IfOk result (λ pairs. AllByRecursion (Equates self.now.tree) pairs.items) }
     {
-        self.equal
+        equated_fields(alloc, &self.on)
     }
 
     /// How many fields a left tuple has, and how many a pair, by the columns of the predicate.

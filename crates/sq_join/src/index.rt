@@ -1,35 +1,26 @@
-//! Where the tuples that are held of a side stand, by their numbers at a place.
+//! Where the tuples that are held of a side stand, by their keys.
 
-ghost use Rattle.std.specs.Prelude.{◌≡◌, ℕ, ◌+◌, ◌%◌, ◌^◌, ◌<◌, ◌==◌, ◌++◌, ◌∷◌, [], List, false, true, length, slice_get, IfOk, IfSome, MatchOption, Some, if◌then◌else◌};
+ghost use Rattle.std.specs.Prelude.{◌≡◌, ℕ, ◌+◌, ◌^◌, ◌<◌, ◌==◌, ◌++◌, ◌∷◌, [], List, false, true, length, slice_get, IfOk, IfSome, MatchOption, Some, if◌then◌else◌};
 ghost use Rattle.std.specs.List.{AllByRecursion};
 ghost use Rattle.sq_value.specs.declared.Tuple.{Tuple as T};
-ghost use Rattle.sq_value.specs.Values.{field};
-ghost use Rattle.sq_join.specs.Indexes.{belongs_at, positions_in, magnitude_of, positions_in_row, row_count, IsIndex, IsOfSamePlace};
+ghost use Rattle.sq_aggfn.specs.Groups.{group_of};
+ghost use Rattle.sq_join.specs.Codes.{key_code, row_at_code};
+ghost use Rattle.sq_join.specs.Indexes.{belongs_at, positions_in, positions_in_row, row_count, IsIndex, IsOfSamePlaces};
 
-use sq_value::{Tuple, Value};
+use crate::keys::code_at;
+use sq_value::Tuple;
 use std::alloc::{AllocError, Global};
 use std::collections::VecDeque;
 
-/// The positions of the tuples that are held of a side and have a number at a place: in rows by the remainder of that
-/// number's magnitude, each row ascending. They count on from that of the first tuple. There are no rows where few tuples
-/// are held, where one of them has an unusual number of fields, or where there was no memory.
+/// The positions of the tuples that are held of a side and have a key with no Null: in rows by the remainder of the key's
+/// code, each row ascending. They count on from that of the first tuple. There are no rows where few tuples are held, where
+/// one of them has an unusual number of fields, or where there was no memory.
 #[derive(Drop)]
 pub(crate) struct Index {
-    place: usize,
+    places: Vec<u32>,
     width: usize,
     pub(crate) first: usize,
     pub(crate) rows: Vec<VecDeque<usize>>,
-}
-
-/// The magnitude of the number at a place of a tuple, where one stands there.
-#[inline(always)]
-fn magnitude_at(x: &Tuple, place: usize) -> Option<u64>
-    ensures { result ≡ magnitude_of (field x.now.fields place) }
-{
-    match x.fields.as_slice().get(place) {
-        Some(Value::Int(number)) => Some(number.unsigned_abs()),
-        _ => None,
-    }
 }
 
 /// Rows in which nothing stands.
@@ -45,51 +36,55 @@ fn bare_rows(alloc: Global, count: usize) -> Result<Vec<VecDeque<usize>>, AllocE
 }
 
 impl Index {
-    /// The index of a side of which nothing is held.
-    pub(crate) fn new(alloc: Global, place: usize, width: usize) -> Index
-        ensures place { (result.place ≡ place) × (result.width ≡ width) }
+    /// The index of a side of which nothing is held, by the key at these places.
+    pub(crate) fn new(alloc: Global, places: Vec<u32>, width: usize) -> Index
+        ensures places { (result.places ≡ places) × (result.width ≡ width) }
         ensures index { IsIndex [] result }
     {
         Index {
-            place,
+            places,
             width,
             first: 0,
             rows: Vec::new(alloc),
         }
     }
 
-    /// The magnitude of the number at the place, if a tuple of this side is as wide as usual.
+    /// Whether a tuple of this side is as wide as usual.
     #[inline(always)]
-    pub(crate) fn magnitude_in(&self, x: &Tuple) -> Option<u64>
-        ensures even { IfSome result (λ _. length x.now.fields ≡ self.now.width) }
-        ensures magnitude { IfSome result (λ magnitude. magnitude_of (field x.now.fields self.now.place) ≡ Some magnitude) }
+    pub(crate) fn is_even(&self, x: &Tuple) -> bool
+        ensures { result ≡ (length x.now.fields == self.now.width) }
     {
-        if x.fields.as_slice().len() != self.width {
-            return None;
-        }
-        magnitude_at(x, self.place)
+        x.fields.as_slice().len() == self.width
     }
 
-    /// The row in which a number of this magnitude belongs, where there are rows.
+    /// The code of a tuple's key.
     #[inline(always)]
-    pub(crate) fn row_of(&self, magnitude: u64) -> Option<usize>
-        ensures { MatchOption result (row_count self.now ≡ 0) (λ row. (row < row_count self.now) × (row ≡ magnitude % row_count self.now)) }
+    pub(crate) fn code_in(&self, x: &Tuple) -> Option<u64>
+        ensures { result ≡ key_code (group_of self.now.places.items x.now) }
+    {
+        code_at(&self.places, x)
+    }
+
+    /// The row in which a key of this code belongs, where there are rows.
+    #[inline(always)]
+    pub(crate) fn row_of(&self, code: u64) -> Option<usize>
+        ensures { MatchOption result (row_count self.now ≡ 0) (λ row. (row < row_count self.now) × (row ≡ row_at_code (row_count self.now) code)) }
     {
         let rows = self.rows.len();
         if rows == 0 {
             return None;
         }
-        Some((magnitude % rows as u64) as usize)
+        Some((code as u128 * rows as u128 >> 64) as usize)
     }
 
     /// The row in which a tuple belongs.
     #[inline(always)]
     fn row_with(&self, x: &Tuple) -> Option<usize>
-        ensures { MatchOption result ((row : ℕ) → row < row_count self.now → belongs_at self.now.place (row_count self.now) row x.now ≡ false)
-            (λ its. (its < row_count self.now) × ((row : ℕ) → belongs_at self.now.place (row_count self.now) row x.now ≡ (its == row))) }
+        ensures { MatchOption result ((row : ℕ) → row < row_count self.now → belongs_at self.now.places.items (row_count self.now) row x.now ≡ false)
+            (λ its. (its < row_count self.now) × ((row : ℕ) → belongs_at self.now.places.items (row_count self.now) row x.now ≡ (its == row))) }
     {
-        match magnitude_at(x, self.place) {
-            Some(magnitude) => self.row_of(magnitude),
+        match self.code_in(x) {
+            Some(code) => self.row_of(code),
             None => None,
         }
     }
@@ -98,12 +93,12 @@ impl Index {
     fn put(&mut self, at: usize, x: &Tuple) -> bool
         ensures even { result ≡ true → length x.now.fields ≡ self.old.width }
         ensures rows { result ≡ true → (row : ℕ) → row < row_count self.old → positions_in_row self.new row
-            ≡ positions_in_row self.old row ++ (if belongs_at self.old.place (row_count self.old) row x.now then at ∷ [] else []) }
+            ≡ positions_in_row self.old row ++ (if belongs_at self.old.places.items (row_count self.old) row x.now then at ∷ [] else []) }
         ensures len { result ≡ true → row_count self.new ≡ row_count self.old }
-        ensures same { IsOfSamePlace self.old self.new }
+        ensures same { IsOfSamePlaces self.old self.new }
         ensures first { self.new.first ≡ self.old.first }
     {
-        if x.fields.as_slice().len() != self.width {
+        if !self.is_even(x) {
             return false;
         }
         match self.row_with(x) {
@@ -116,7 +111,7 @@ impl Index {
     fn add(&mut self, count: usize, x: &Tuple)
         requires { self.old.first + count + 1 < 2 ^ 64 }
         ensures index { (held : List T) → length held ≡ count → IsIndex held self.old → IsIndex (held ++ x.now ∷ []) self.new }
-        ensures same { IsOfSamePlace self.old self.new }
+        ensures same { IsOfSamePlaces self.old self.new }
         ensures first { self.new.first ≡ self.old.first }
     {
         if !self.rows.is_empty() && !self.put(self.first + count, x) {
@@ -128,7 +123,7 @@ impl Index {
     pub(crate) fn drop_first(&mut self, x: &Tuple)
         requires { self.old.first + 1 < 2 ^ 64 }
         ensures index { (held : List T) → IsIndex (x.now ∷ held) self.old → IsIndex held self.new }
-        ensures same { IsOfSamePlace self.old self.new }
+        ensures same { IsOfSamePlaces self.old self.new }
     {
         self.first += 1;
         if let Some(row) = self.row_with(x) {
@@ -139,7 +134,7 @@ impl Index {
     /// Takes in all that is held anew, in about as many rows.
     fn build(&mut self, held: &VecDeque<Tuple>)
         ensures index { IsIndex held.now.items self.new }
-        ensures same { IsOfSamePlace self.old self.new }
+        ensures same { IsOfSamePlaces self.old self.new }
         ensures first { self.new.first ≡ 0 }
     {
         let alloc = *held.allocator();
@@ -157,11 +152,10 @@ impl Index {
     pub(crate) fn push_last(&mut self, held: &VecDeque<Tuple>, x: &Tuple)
         requires { IsIndex held.now.items self.old }
         ensures index { IsIndex (held.now.items ++ x.now ∷ []) self.new }
-        ensures same { IsOfSamePlace self.old self.new }
+        ensures same { IsOfSamePlaces self.old self.new }
     {
         let is_full = held.len() > 8 && held.len() / 2 > self.rows.len();
-        let is_even = x.fields.as_slice().len() == self.width;
-        if (is_full && is_even) || self.first >= 1 << 63 {
+        if (is_full && self.is_even(x)) || self.first >= 1 << 63 {
             self.build(held);
         }
         self.add(held.len(), x);

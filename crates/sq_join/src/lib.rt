@@ -8,7 +8,10 @@
 mod condition;
 mod index;
 mod join;
+mod keys;
+mod list;
 mod side_indexes;
 mod sides;
 
 pub use join::JoinBox;
+pub use list::join_list;

@@ -1,22 +1,30 @@
-//! An index for each side of a Join whose predicate equates a left with a right field.
+//! An index for each side of a Join whose predicate equates left with right fields.
 
 ghost use Rattle.std.specs.Prelude.{◌≡◌, List, [], IfSome};
 ghost use Rattle.sq_value.specs.declared.Tuple.{Tuple as T};
 ghost use Rattle.sq_expr.specs.Trees.{Expr};
 ghost use Rattle.sq_lists.specs.Sides.{against, left_with, recent, right_with};
-ghost use Rattle.sq_join.specs.Indexes.{index_against, index_of, AreIndexes, AreOf, HasPassing, IsIndex, IsOfSamePlace};
+ghost use Rattle.sq_join.specs.Indexes.{index_against, index_of, AreIndexes, AreOf, AreCandidates, IsIndex, IsOfSamePlaces};
 
 use crate::condition::Condition;
 use crate::index::Index;
+use crate::keys::{Keys, keys_of};
 use sq_lists::{Sides, begins_past};
 use sq_value::Tuple;
 use std::alloc::Global;
 use std::collections::VecDeque;
 
-/// An index of each side, by the two places that the predicate equates.
+/// An index of each side, by the places that the predicate equates.
 pub(crate) struct SideIndexes {
     left: Index,
     right: Index,
+}
+
+/// Those with which a tuple may pass.
+pub(crate) enum Candidates {
+    All,
+    InRow(usize),
+    Nobody,
 }
 
 /// By hand, so that a proof above meets one call where indexes are let go.
@@ -34,7 +42,7 @@ fn let_go(held: &mut VecDeque<Tuple>, index: &mut Index, size: u64, now: u64)
     requires { IsIndex held.old.items index.old }
     ensures held { held.new.items ≡ recent size now held.old.items }
     ensures index { IsIndex held.new.items index.new }
-    ensures same { IsOfSamePlace index.old index.new }
+    ensures same { IsOfSamePlaces index.old index.new }
 {
     while begins_past(held, size, now) {
         if let Some(x) = held.pop_front() {
@@ -44,27 +52,23 @@ fn let_go(held: &mut VecDeque<Tuple>, index: &mut Index, size: u64, now: u64)
 }
 
 impl SideIndexes {
-    /// The indexes of a Join that holds nothing, where its predicate equates a left with a right field.
+    /// The indexes of a Join that holds nothing, where its predicate equates left with right fields.
     pub(crate) fn of(alloc: Global, on: &Condition) -> Option<SideIndexes>
         ensures { IfSome result (AreIndexes on.now.tree [] []) }
     {
-        let (one, other) = on.equated()?;
-        let (left, all) = on.widths();
-        let (first, second) = if one < other {
-            (one, other)
-        } else {
-            (other, one)
-        };
-        if left <= first || second < left || all < left {
+        let Keys { width, left, right } = keys_of(alloc, on).ok()?;
+        let (_left, all) = on.widths();
+        if left.is_empty() || all < width {
             return None;
         }
         Some(SideIndexes {
-            left: Index::new(alloc, first, left),
-            right: Index::new(alloc, second - left, all - left),
+            left: Index::new(alloc, left, width),
+            right: Index::new(alloc, right, all - width),
         })
     }
 
     /// The index of a side.
+    #[inline(always)]
     fn of_side(&self, side: u32) -> &Index
         ensures { result.now ≡ index_of side self.now }
     {
@@ -72,19 +76,37 @@ impl SideIndexes {
     }
 
     /// The index of the other side.
+    #[inline(always)]
     pub(crate) fn against(&self, side: u32) -> &Index
         ensures { result.now ≡ index_against side self.now }
     {
         if side == 0 { &self.right } else { &self.left }
     }
 
-    /// The row against a side in which each tuple stands with which one passes that comes there.
-    pub(crate) fn row_for(&self, side: u32, x: &Tuple) -> Option<usize>
+    /// Those against a side with which a tuple that comes there may pass.
+    #[inline(always)]
+    pub(crate) fn candidates(&self, side: u32, x: &Tuple) -> Candidates
         ensures { (on : Expr) (left right : List T) → AreIndexes on left right self.now
-            → IfSome result (HasPassing on side x.now (against side left right) (index_against side self.now)) }
+            → AreCandidates on side x.now (against side left right) (index_against side self.now) result }
     {
-        let magnitude = self.of_side(side).magnitude_in(x)?;
-        self.against(side).row_of(magnitude)
+        let own = self.of_side(side);
+        let other = self.against(side);
+        if !own.is_even(x) {
+            return Candidates::All;
+        }
+        match own.code_in(x) {
+            Some(code) => match other.row_of(code) {
+                Some(row) => Candidates::InRow(row),
+                None => Candidates::All,
+            },
+            None => {
+                if other.rows.is_empty() {
+                    Candidates::All
+                } else {
+                    Candidates::Nobody
+                }
+            }
+        }
     }
 
     /// Lets go of the first tuples of each side, as long as they are more than `size` ticks before a time.

@@ -11,7 +11,7 @@ ghost use Rattle.sq_oper.specs.Streams.{IsSoundTuple, things, at_zero};
 
 use crate::condition::Condition;
 use crate::index::Index;
-use crate::side_indexes::SideIndexes;
+use crate::side_indexes::{Candidates, SideIndexes};
 use sq_item::{Body, Item, Sign};
 use sq_lists::Sides;
 use sq_oper::Outlet;
@@ -139,15 +139,19 @@ fn meet<T: Outlet>(
 {
     let others = sides.against(side);
     if let Some(indexes) = indexes {
-        if let Some(row) = indexes.row_for(side, x) {
-            return give_pairs_in_row(on, side, x, others, indexes.against(side), row, out);
-        }
+        return match indexes.candidates(side, x) {
+            Candidates::All => give_pairs(on, side, x, others, out),
+            Candidates::InRow(row) => {
+                give_pairs_in_row(on, side, x, others, indexes.against(side), row, out)
+            }
+            Candidates::Nobody => Ok(()),
+        };
     }
     give_pairs(on, side, x, others, out)
 }
 
 /// Takes a tuple that comes at a side into the indexes.
-fn push_last(indexes: &mut Option<SideIndexes>, sides: &Sides, side: u32, x: &Tuple)
+pub(crate) fn push_last(indexes: &mut Option<SideIndexes>, sides: &Sides, side: u32, x: &Tuple)
     requires { IfSome indexes.old (AreOf sides.now.left.items sides.now.right.items) }
     ensures { (on : Expr) → MayIndex on sides.now.left.items sides.now.right.items indexes.old
         → MayIndex on (left_with side x.now sides.now.left.items) (right_with side x.now sides.now.right.items) indexes.new }

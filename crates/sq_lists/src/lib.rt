@@ -17,7 +17,7 @@ mod tuples;
 mod windows;
 
 pub use laws::boxes_keep_streams;
-pub use merges::merge;
+pub use merges::{merge, merge_two};
 pub use pairs::join_list;
 pub use resamples::{resample_list, with_answers};
 pub use sides::{Sides, begins_past, passing_pair};

@@ -8,7 +8,8 @@ ghost use Rattle.sq_net.specs.SoundNetworks.{HasWindow};
 ghost use Rattle.sq_model.specs.FullStreams.{box_list};
 ghost use Rattle.sq_model.specs.Unions.{tuple_sooner};
 
-use sq_lists::{aggregate_list, bsort_list, filter_list, join_list, map_list, resample_list};
+use sq_join::join_list;
+use sq_lists::{aggregate_list, bsort_list, filter_list, map_list, resample_list};
 use sq_net::Body;
 use sq_value::{Tuple, copy_tuple};
 use std::alloc::{AllocError, Global};
