@@ -3,7 +3,8 @@ ghost use Rattle.sq_value.specs.Values.{IsStream};
 
 use crate::numbers::{are_numbers, over_pairs, tuple_at};
 use sq_aggfn::{Func, WindowSpec};
-use sq_lists::{aggregate_list, bsort_list, filter_list, join_list, map_list, merge};
+use sq_join::join_list;
+use sq_lists::{aggregate_list, bsort_list, filter_list, map_list, merge};
 use sq_value::Tuple;
 use std::alloc::{AllocError, Global};
 use std::test::Fail;
