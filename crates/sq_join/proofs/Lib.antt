@@ -4,3 +4,4 @@ pub mod IndexLemmas
 pub mod TurnLemmas
 pub mod JoinLemmas
 pub mod ElementWords
+mod PairRows

@@ -10,7 +10,6 @@ pub mod GroupLemmas
 pub mod WindowLemmas
 mod AggregateRows
 pub mod SideLemmas
-mod PairRows
 pub mod NearLemmas
 mod ResampleRows
 pub mod LateLemmas

@@ -8,7 +8,6 @@
 mod buffer;
 mod laws;
 mod merges;
-mod pairs;
 mod resamples;
 mod sides;
 mod sorter;
@@ -18,7 +17,6 @@ mod windows;
 
 pub use laws::boxes_keep_streams;
 pub use merges::{merge, merge_two};
-pub use pairs::join_list;
 pub use resamples::{resample_list, with_answers};
 pub use sides::{Sides, begins_past, passing_pair};
 pub use sorter::Sorter;
