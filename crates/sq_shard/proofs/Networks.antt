@@ -41,7 +41,8 @@ source-part : (in_class : KeyClass) (o : Option ℕ) (xs : List Tuple) → IsSha
 source-part in_class None xs = refl
 source-part in_class (Some c) xs = (refl, tt)
 
-gives-all : (n : Network) (sound : IsSound n) (sources : List (List Tuple)) → NoneLate n sources → (at : ℕ) (b : Node) → slice_get n.boxes at ≡ Some b
+-- where no BSort leaves out a tuple
+pub gives-all : (n : Network) (sound : IsSound n) (sources : List (List Tuple)) → NoneLate n sources → (at : ℕ) (b : Node) → slice_get n.boxes at ≡ Some b
     → (c : Body) → b.body ≡ c → GivesAll c (nth (map (full_stream n sources) (inputs_of n.wires at)) 0)
 gives-all n sound sources none at b there (Filter preds) is = tt
 gives-all n sound sources none at b there (Map exprs) is = tt

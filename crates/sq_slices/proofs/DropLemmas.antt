@@ -1,0 +1,196 @@
+-- A slice of a run that drops batches: a batch is dropped in a part where it is in the whole.
+use Rattle.std.proofs.Common.{◌≡◌, ℕ, zero, suc, ◌+◌, ◌-◌, ◌*◌, ◌/◌, ◌%◌, ◌<◌, ◌≤◌, max, eqb, leb, ltb, Bool, true, false, not, cond, ◌&&◌, ◌||◌, List, [], ◌∷◌, map, length, Option, Some, None, refl, ap, sym, ◌∙◌, arith, inl, inr}
+use Rattle.std.proofs.Math.Nat.{mod-lt, div-mul-le_self}
+use Rattle.std.proofs.lemmas.Bool.{cases_lt}
+use Rattle.std.proofs.lemmas.Bool.Decides.{nat_tests}
+use Rattle.std.proofs.lemmas.Nat.{div-add-mod', le-div}
+use Rattle.std.proofs.lemmas.List.Sums.{length-filter}
+use Rattle.std.specs.List.{filter, list_any, count_by, range_with_len}
+use Rattle.sq_value.specs.declared.Tuple.{Tuple}
+use Rattle.sq_words.specs.Lists.{contains_number, numbers_to}
+use Rattle.sq_words.proofs.Alls.{all_weaker}
+use Rattle.sq_words.proofs.Bools.{and_true}
+use Rattle.sq_words.proofs.Numbers.{eq_from, leb_from, times_up}
+use Rattle.sq_graph.specs.Wires.{output_arc_at}
+use Rattle.sq_place.specs.declared.DropPoint.{DropPoint}
+use Rattle.sq_place.specs.Points.{until_of}
+use Rattle.sq_points.specs.Above.{drop_above_output}
+use Rattle.sq_points.specs.Points.{setting_of}
+use Rattle.sq_plan.specs.PlanRows.{level_for}
+use Rattle.sq_road.specs.Draws.{draw_of}
+use Rattle.sq_model.specs.FullStreams.{full_arc}
+use Rattle.sq_model.specs.Shedding.{Replay, is_touched, last_of, touched_by, batch_level, is_dropped, full_at, record_of, shown}
+use Rattle.sq_shard.proofs.Lists.{filter-swap, filter-under, filter-same, all-pass}
+use Rattle.sq_slices.specs.Slices.{in_slice, slice, AgreeIn, SourcesAgree}
+use Rattle.sq_slices.specs.Drops.{with_sources, batch_begin, epoch_before, BatchesAgree, SlicesShowTheSame}
+use Rattle.sq_slices.proofs.SliceLemmas.{narrower}
+
+-- ---- lists
+
+any-is : {X : Type 0} (p : X → Bool) (xs : List X) → list_any p xs ≡ ltb 0 (length (filter p xs))
+any-is p [] = refl
+any-is {X} p (x ∷ xs) = by (p x) (any-is p xs)
+  where
+    some : (n : ℕ) → true ≡ ltb 0 (suc n)
+    some n = grind (arith, nat_tests)
+
+    by : (c : Bool) → list_any p xs ≡ ltb 0 (length (filter p xs)) → (c || list_any p xs) ≡ ltb 0 (length (cond c (x ∷ filter p xs) (filter p xs)))
+    by true more = some (length (filter p xs))
+    by false more = more
+
+contains-filter : (f : ℕ → Bool) (xs : List ℕ) (n : ℕ) → contains_number (filter f xs) n ≡ (f n && contains_number xs n)
+contains-filter f [] n = none (f n)
+  where
+    none : (c : Bool) → false ≡ (c && false)
+    none true = refl
+    none false = refl
+contains-filter f (x ∷ xs) n = by (f x) (eqb x n) refl refl (contains-filter f xs n)
+  where
+    with-true : (c : Bool) → c ≡ true → true ≡ (c && true)
+    with-true c e = rw e refl
+
+    with-false : (c d : Bool) → c ≡ false → false ≡ (c && d)
+    with-false c d e = rw e refl
+
+    by : (c d : Bool) → f x ≡ c → eqb x n ≡ d → contains_number (filter f xs) n ≡ (f n && contains_number xs n) → contains_number (cond c (x ∷ filter f xs) (filter f xs)) n ≡ (f n && (d || contains_number xs n))
+    by true true e h more = ap (λ z. z || contains_number (filter f xs) n) h ∙ with-true (f n) (sym (ap f (eq_from x n h)) ∙ e)
+    by true false e h more = ap (λ z. z || contains_number (filter f xs) n) h ∙ more
+    by false true e h more =
+        let no : f n ≡ false = sym (ap f (eq_from x n h)) ∙ e in
+        more ∙ ap (λ z. z && contains_number xs n) no ∙ with-false (f n) true no
+    by false false e h more = more
+
+contains-range : (a n k : ℕ) → a ≤ k → k < a + n → contains_number (range_with_len a n) k ≡ true
+contains-range a zero k low high = absurd (omega (arith, low, high))
+contains-range a (suc n) k low high =
+    elim (cases_lt a k) [
+      | inl less ↦ (ap (λ z. eqb a k || z) (contains-range (a + 1) n k (omega (arith, less)) (omega (arith, high))) ∙ or-true (eqb a k))
+      | inr past ↦ ap (λ z. z || contains_number (range_with_len (a + 1) n) k) (same a k (omega (arith, low, past)))
+    ]
+  where
+    or-true : (c : Bool) → (c || true) ≡ true
+    or-true true = refl
+    or-true false = refl
+
+    same : (a k : ℕ) → a ≡ k → eqb a k ≡ true
+    same a k h = grind (arith, nat_tests)
+
+-- ---- batches
+
+any-early : (u v : ℕ) (xs : List Tuple) → list_any (in_slice u v) xs ≡ true → u ≤ last_of xs
+any-early u v [] h = absurd (cc h)
+any-early u v (x ∷ xs) h = by (in_slice u v x) refl h (any-early u v xs)
+  where
+    first : (u v t : ℕ) → (leb u t && ltb t v) ≡ true → u ≤ t
+    first u v t h = grind (arith, nat_tests)
+
+    by : (c : Bool) → in_slice u v x ≡ c → (c || list_any (in_slice u v) xs) ≡ true → (list_any (in_slice u v) xs ≡ true → u ≤ last_of xs) → u ≤ max x.time (last_of xs)
+    by true e h more = let low = first u v x.time e in omega (arith, low)
+    by false e h more = let low = more h in omega (arith, low)
+
+-- a batch is in the record where it is touched and dropped
+in-record : (r : Replay) (w : ℕ) (p : DropPoint) → 1 ≤ p.length → (k : ℕ) → contains_number (record_of r w p) k ≡ (is_dropped r w p k && is_touched p (full_at r p.at) k)
+in-record r w p some k =
+    let xs = full_at r p.at in
+    contains-filter (is_dropped r w p) (touched_by p xs) k
+    ∙ ap (λ z. is_dropped r w p k && z) (contains-filter (is_touched p xs) (numbers_to (last_of xs / p.length + 1)) k ∙ by (is_touched p xs k) refl)
+  where
+    by : (c : Bool) → is_touched p (full_at r p.at) k ≡ c → (c && contains_number (numbers_to (last_of (full_at r p.at) / p.length + 1)) k) ≡ c
+    by true e =
+        let low = any-early (k * p.length) (until_of p k) (full_at r p.at) e in
+        let few = le-div k (last_of (full_at r p.at)) p.length some low in
+        contains-range 0 (last_of (full_at r p.at) / p.length + 1) k (omega arith) (omega (arith, few))
+    by false e = refl
+
+touched-same : (p : DropPoint) (k : ℕ) (xs ys : List Tuple) → AgreeIn (k * p.length) (until_of p k) xs ys → is_touched p xs k ≡ is_touched p ys k
+touched-same p k xs ys e =
+    any-is (in_slice (k * p.length) (until_of p k)) xs ∙ ap (λ (zs : List Tuple). ltb 0 (length zs)) e ∙ sym (any-is (in_slice (k * p.length) (until_of p k)) ys)
+
+-- ---- plans
+
+count-is : (f : Tuple → Bool) (xs : List Tuple) → count_by f xs ≡ length (filter f xs)
+count-is f xs = sym (length-filter f xs)
+
+in-epoch : (lo hi e E t : ℕ) → 1 ≤ E → lo ≤ e * E → (e + 1) * E ≤ hi → eqb (t / E) e ≡ true → (leb lo t && ltb t hi) ≡ true
+in-epoch lo hi e E t some low high h =
+    let is = eq_from (t / E) e h in
+    let parts : t / E * E + t % E ≡ t = div-add-mod' t E in
+    let left : t % E < E = mod-lt t some in
+    let same : t / E * E ≡ e * E = ap (λ q. q * E) is in
+    let next = once e E in
+    tests lo hi t (omega (arith, parts, same, low)) (omega (arith, parts, same, left, next, high))
+  where
+    once : (e E : ℕ) → (e + 1) * E ≡ e * E + E
+    once e E = grind arith
+
+    tests : (lo hi t : ℕ) → lo ≤ t → t < hi → (leb lo t && ltb t hi) ≡ true
+    tests lo hi t h k = grind (arith, nat_tests)
+
+count-same : (lo hi e E : ℕ) → 1 ≤ E → lo ≤ e * E → (e + 1) * E ≤ hi → (xs ys : List Tuple) → AgreeIn lo hi xs ys → count_by (λ x. eqb (x.time / E) e) xs ≡ count_by (λ x. eqb (x.time / E) e) ys
+count-same lo hi e E some low high xs ys agree =
+    let f : Tuple → Bool = λ x. eqb (x.time / E) e in
+    let under = filter-under (in_slice lo hi) f (λ x h. in-epoch lo hi e E x.time some low high h) in
+    count-is f xs ∙ ap (λ (zs : List Tuple). length zs) (sym (under xs) ∙ ap (filter f) agree ∙ under ys) ∙ sym (count-is f ys)
+
+counts-same : (lo hi e E : ℕ) → 1 ≤ E → lo ≤ e * E → (e + 1) * E ≤ hi → (xss yss : List (List Tuple)) → length yss ≡ length xss → SourcesAgree lo hi xss yss
+    → map (count_by (λ x. eqb (x.time / E) e)) xss ≡ map (count_by (λ x. eqb (x.time / E) e)) yss
+counts-same lo hi e E some low high [] [] count agree = refl
+counts-same lo hi e E some low high [] (ys ∷ yss) count agree = absurd (omega (arith, count))
+counts-same lo hi e E some low high (xs ∷ xss) [] count agree = absurd (omega (arith, count))
+counts-same lo hi e E some low high (xs ∷ xss) (ys ∷ yss) count agree =
+    ap (λ c. c ∷ map (count_by (λ x. eqb (x.time / E) e)) xss) (count-same lo hi e E some low high xs ys (agree 0))
+    ∙ ap (λ cs. count_by (λ x. eqb (x.time / E) e) ys ∷ cs) (counts-same lo hi e E some low high xss yss (omega (arith, count)) (λ s. agree (suc s)))
+
+module _ (r : Replay) (part : List (List Tuple)) (a b w : ℕ) (p : DropPoint) (agree : BatchesAgree r part a b (Some (w, p))) where
+  level-same : (k : ℕ) → a / p.length ≤ k → k * p.length < b → batch_level r (k * p.length / r.network.epoch) w ≡ batch_level (with_sources r part) (k * p.length / r.network.epoch) w
+  level-same k low high = by (k * p.length / r.network.epoch) refl
+    where
+      by : (e : ℕ) → k * p.length / r.network.epoch ≡ e → batch_level r e w ≡ batch_level (with_sources r part) e w
+      by zero is = refl
+      by (suc e) is =
+          let E = r.network.epoch in
+          let first = times_up (a / p.length) k p.length low in
+          let from : batch_begin p a / E ≤ k * p.length / E = le-div (batch_begin p a / E) (k * p.length) E agree.1 (let h = div-mul-le_self (batch_begin p a) E in omega (arith, h, first)) in
+          let back : epoch_before r (batch_begin p a) ≤ e * E = times_up (batch_begin p a / E - 1) e E (omega (arith, from, is)) in
+          let whole : k * p.length / E * E ≤ k * p.length = div-mul-le_self (k * p.length) E in
+          let end : (e + 1) * E ≡ k * p.length / E * E = ap (λ q. q * E) (let s : e + 1 ≡ k * p.length / E = omega (arith, is) in s) in
+          let counts = counts-same (epoch_before r (batch_begin p a)) b e E agree.1 back (omega (arith, whole, end, high)) r.sources part agree.2 agree.4 in
+          ap (λ cs. level_for (setting_of r.network r.entries) (λ z. cs) (suc e) w) counts
+
+  dropped-same : (x : Tuple) → in_slice a b x ≡ true → contains_number (record_of r w p) (x.time / p.length) ≡ contains_number (record_of (with_sources r part) w p) (x.time / p.length)
+  dropped-same x here =
+      let k = x.time / p.length in
+      let parts = and_true (leb a x.time) (ltb x.time b) here in
+      let low = leb_from a x.time parts.0 in
+      let high = less x.time b parts.1 in
+      let begin : k * p.length ≤ x.time = div-mul-le_self x.time p.length in
+      let first : a / p.length ≤ k = le-div (a / p.length) x.time p.length agree.0 (let h = div-mul-le_self a p.length in omega (arith, h, low)) in
+      let last : k ≤ b / p.length = le-div k b p.length agree.0 (omega (arith, begin, high)) in
+      let from = times_up (a / p.length) k p.length first in
+      let to = times_up (k + 1) (b / p.length + 1) p.length (omega (arith, last)) in
+      let level = level-same k first (omega (arith, begin, high)) in
+      in-record r w p agree.0 k
+      ∙ ap (λ l. ltb (draw_of r.seed w k) l && is_touched p (full_at r p.at) k) level
+      ∙ ap (λ c. is_dropped (with_sources r part) w p k && c)
+      (touched-same p k (full_at r p.at) (full_at (with_sources r part) p.at)
+      (narrower (batch_begin p a) (until_of p (b / p.length)) (k * p.length) (until_of p k) from (omega (arith, to)) (full_at r p.at) (full_at (with_sources r part) p.at) agree.3))
+      ∙ sym (in-record (with_sources r part) w p agree.0 k)
+    where
+      less : (t b : ℕ) → ltb t b ≡ true → t < b
+      less t b h = grind (arith, nat_tests)
+
+  shown-same : (xs ys : List Tuple) → AgreeIn a b xs ys → AgreeIn a b (shown r (Some (w, p)) xs) (shown (with_sources r part) (Some (w, p)) ys)
+  shown-same xs ys e =
+      let q : Tuple → Bool = λ x. not (contains_number (record_of r w p) (x.time / p.length)) in
+      let s : Tuple → Bool = λ x. not (contains_number (record_of (with_sources r part) w p) (x.time / p.length)) in
+      filter-swap (in_slice a b) q xs ∙ ap (filter q) e
+      ∙ filter-same q s (slice a b ys) (all_weaker (λ x. in_slice a b x ≡ true) (λ x. q x ≡ s x) (λ x here. ap not (dropped-same x here)) (slice a b ys) (all-pass (in_slice a b) ys))
+      ∙ sym (filter-swap (in_slice a b) s ys)
+
+pub show-same : (r : Replay) → SlicesShowTheSame r
+show-same r part o a b batches agree = by (drop_above_output r.network o) batches
+  where
+    by : (d : Option (ℕ × DropPoint)) → BatchesAgree r part a b d
+        → AgreeIn a b (shown r d (full_arc r.network r.sources (output_arc_at r.network.wires o))) (shown (with_sources r part) d (full_arc r.network part (output_arc_at r.network.wires o)))
+    by None h = agree
+    by (Some d) h = shown-same r part a b d.0 d.1 h (full_arc r.network r.sources (output_arc_at r.network.wires o)) (full_arc r.network part (output_arc_at r.network.wires o)) agree
