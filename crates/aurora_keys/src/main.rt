@@ -5,9 +5,10 @@
 //! `sq_system`. Its exit code is that of the status.
 #![tactic(auto)]
 
-use sq_keys::{Status, run_keys};
+use sq_keys::run_keys;
 use sq_outside::write_all;
 use sq_system::{OpenFolder, Out, take_closed_streams, words_after_name};
+use sq_teller::Status;
 use std::process::ExitCode;
 
 /// Does what the words ask for, and says how it ended.

@@ -1,7 +1,6 @@
 -- Worked rows, by evaluation.
 use Rattle.std.proofs.Common.{◌≡◌, refl, ℕ, false, true, List, [], ◌∷◌, Some, None, Ok, Err}
 use Rattle.std.specs.Prelude.{codes}
-use Rattle.std.specs.Fmt.{digits}
 use Rattle.sq_value.specs.declared.Kind.TheVariants as kind
 use Rattle.sq_value.specs.Values.{Columns}
 use Rattle.sq_aggfn.specs.declared.Func.TheVariants as func
@@ -15,14 +14,14 @@ use Rattle.sq_net.specs.declared.Network.{Network}
 use Rattle.sq_net.specs.declared.Node.{Node}
 use Rattle.sq_net.specs.declared.Output.{Output}
 use Rattle.sq_net.specs.declared.Source.{Source}
-use Rattle.sq_keys.specs.declared.KeyWhy.TheVariants as why
+use Rattle.sq_teller.specs.declared.KeyWhy.TheVariants as why
 use Rattle.sq_keys.specs.declared.Pair.{Pair}
-use Rattle.sq_keys.specs.declared.Status.TheVariants as status
+use Rattle.sq_teller.specs.declared.Status.TheVariants as status
 use Rattle.sq_keys.specs.Words.{asked_in}
 use Rattle.sq_keys.specs.Keys.{cuts_asked}
 use Rattle.sq_keys.specs.Lines.{is_lost, keys_text}
-use Rattle.sq_keys.specs.Answers.{Says, Refuses, by_network}
-use Rattle.sq_keys.specs.Messages.{keys_message}
+use Rattle.sq_teller.specs.Replies.{Says, Refuses}
+use Rattle.sq_keys.specs.Answers.{by_network}
 
 abbrev pair : List ℕ → List ℕ → Pair
 pair source field = record { source = source; field = field }
@@ -135,7 +134,7 @@ text_lost = refl
 text_other_key : keys_text network (Some 1 ∷ Some 0 ∷ []) true ≡ codes "counts,lost\nrates,cut,symbol\nall,cut,price\n@loses,by_symbol,aggregate\n"
 text_other_key = refl
 
--- ---- answers and messages
+-- ---- answers
 
 answer_lost : by_network (record { on_time = false; net = codes "a"; pairs = pair (codes "trades") (codes "symbol") ∷ [] }) (Ok network)
     ≡ Says (codes "counts,lost\nrates,whole\nall,lost\n@loses,sorted,bsort\n") true
@@ -146,10 +145,3 @@ answer_bad_key = refl
 
 answer_bad_network : by_network (record { on_time = true; net = codes "a"; pairs = [] }) (Err net.Toml) ≡ Refuses (status.BadNetwork net.Toml)
 answer_bad_network = refl
-
-message_key : keys_message (status.BadKey 2 why.Twice) ≡ codes "aurora_keys: key 2: Twice\n"
-unfolding digits
-message_key = refl
-
-message_network : keys_message (status.BadNetwork net.Version) ≡ codes "aurora_keys: network: Version\n"
-message_network = refl

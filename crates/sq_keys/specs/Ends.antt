@@ -1,78 +1,10 @@
--- How a call ends, by what the folder gave and what the output took.
-use Rattle.std.specs.Prelude.{◌≡◌, ◌⊎◌, ⊤, ℕ, ◌+◌, ◌≤◌, Bool, List, [], ◌∷◌, ◌++◌, length, Option, Some, None, IsSomeAnd}
-use Rattle.sq_words.specs.Lists.{IsPrefixOf}
-use Rattle.sq_outside.specs.Faults.{Rose, RoseBy}
-use Rattle.sq_outside.specs.Folders.{Files, IsLonger, file}
-use Rattle.sq_outside.specs.Sinks.{AppendsPrefix, appended}
+-- How a call ends.
+use Rattle.std.specs.Prelude.{Option, Some, None}
+use Rattle.sq_teller.specs.declared.Status.{Status}
+use Rattle.sq_teller.specs.Ends.{EndsAsked, EndsUnasked, Surroundings}
 use Rattle.sq_keys.specs.declared.Asked.{Asked}
-use Rattle.sq_keys.specs.declared.Status.{Status}
-use Rattle.sq_keys.specs.declared.Status.TheVariants as status
-use Rattle.sq_keys.specs.Answers.{Reply, Says, Refuses, reply_of, lost_status}
-use Rattle.sq_keys.specs.Messages.{keys_message}
-use Rattle.sq_reader.specs.Limits.{settings_limit}
-
--- P of the files, where they are told
-abbrev pub WhereFilesTold : Option Files → (Files → Type 0) → Type 0
-WhereFilesTold None P = ⊤
-WhereFilesTold (Some files) P = P files
-
--- the folder and the output, before a call and after it
-pub record Surroundings : Type 0 where
-  pub told : Option Files
-  pub folder_before : ℕ
-  pub folder_now : ℕ
-  pub taken_before : ℕ
-  pub taken_now : ℕ
-  pub read_before : List (List ℕ × List ℕ)
-  pub read_now : List (List ℕ × List ℕ)
-  pub out_before : Option (List ℕ)
-  pub out_now : Option (List ℕ)
-  pub sink_before : ℕ
-  pub sink_now : ℕ
-
--- the file of this name was read, and nothing else, and these are its bytes
-abbrev pub IsReadAs : Option Files → List (List ℕ × List ℕ) → List (List ℕ × List ℕ) → List ℕ → List ℕ → Type 0
-IsReadAs told before now name bytes =
-    (length bytes ≤ settings_limit) × WhereFilesTold told (λ files. file files name ≡ Some bytes) × (now ≡ before ++ (name, bytes) ∷ [])
-
--- why the file of this name wasn't read
-abbrev pub IsUnreadAs : Option Files → ℕ → ℕ → ℕ → ℕ → List ℕ → Status → Type 0
-IsUnreadAs told faults_before faults_now taken_before taken_now name result =
-    (result ≡ status.Memory)
-    ⊎ ((result ≡ status.FolderFault name) × (Rose faults_before faults_now ⊎ IsSomeAnd told (λ files. file files name ≡ None)))
-    ⊎ ((result ≡ status.TooLong name) × RoseBy (settings_limit + 1) taken_before taken_now × WhereFilesTold told (λ files. IsLonger files name settings_limit))
-
-abbrev pub IsNetRead : List ℕ → List ℕ → Surroundings → Type 0
-IsNetRead name bytes w = IsReadAs w.told w.read_before w.read_now name bytes
-
-abbrev pub IsNetUnread : List ℕ → Surroundings → Status → Type 0
-IsNetUnread name w result = IsUnreadAs w.told w.folder_before w.folder_now w.taken_before w.taken_now name result
-
--- the folder isn't called
-pub record IsUncalled (w : Surroundings) : Type 0 where
-  pub faults : w.folder_now ≡ w.folder_before
-  pub taken : w.taken_now ≡ w.taken_before
-  pub read : w.read_now ≡ w.read_before
-
--- a text is written whole, or a part of it where the output failed
-abbrev pub WritesText : List ℕ → Bool → Option (List ℕ) → Option (List ℕ) → ℕ → ℕ → Status → Type 0
-WritesText text lost before now faults_before faults_now result =
-    ((result ≡ lost_status lost) × (now ≡ appended before text))
-    ⊎ ((result ≡ status.SinkFault) × Rose faults_before faults_now × AppendsPrefix before now text)
-
--- how a call ends of which this is the answer: its text is written, or memory ran out; at a refusal nothing is written
-abbrev pub EndsBy : Reply → Surroundings → Status → Type 0
-EndsBy (Says text lost) w result =
-    WritesText text lost w.out_before w.out_now w.sink_before w.sink_now result
-    ⊎ ((result ≡ status.Memory) × (w.out_now ≡ w.out_before))
-EndsBy (Refuses broken) w result = ((result ≡ broken) ⊎ (result ≡ status.Memory)) × (w.out_now ≡ w.out_before)
+use Rattle.sq_keys.specs.Answers.{reply_of}
 
 abbrev pub KeysEnds : Option Asked → Surroundings → Status → Type 0
-KeysEnds None w result = ((result ≡ status.Usage) ⊎ (result ≡ status.Memory)) × IsUncalled w × (w.out_now ≡ w.out_before)
-KeysEnds (Some a) w result =
-    (IsNetUnread a.net w result × (w.read_now ≡ w.read_before) × (w.out_now ≡ w.out_before))
-    ⊎ ((bytes : List ℕ) × IsNetRead a.net bytes w × (w.folder_now ≡ w.folder_before) × EndsBy (reply_of a bytes) w result)
-
--- the message: whole, or a part of it where the sink for messages has failed
-abbrev pub TellsKeysStatus : ℕ → ℕ → Status → List ℕ → Type 0
-TellsKeysStatus before now result text = (text ≡ keys_message result) ⊎ (Rose before now × IsPrefixOf text (keys_message result))
+KeysEnds None w result = EndsUnasked w result
+KeysEnds (Some a) w result = EndsAsked a.net (reply_of a) w result

@@ -5,8 +5,8 @@ use Rattle.sq_words.specs.Lists.{same_bytes}
 use Rattle.sq_value.specs.Values.{Columns, names_of}
 use Rattle.sq_net.specs.declared.Source.{Source}
 use Rattle.sq_keys.specs.declared.Pair.{Pair}
-use Rattle.sq_keys.specs.declared.KeyWhy.{KeyWhy}
-use Rattle.sq_keys.specs.declared.KeyWhy.TheVariants as why
+use Rattle.sq_teller.specs.declared.KeyWhy.{KeyWhy}
+use Rattle.sq_teller.specs.declared.KeyWhy.TheVariants as why
 use Rattle.sq_keys.specs.declared.KeysErr.{KeysErr}
 use Rattle.sq_keys.specs.declared.KeysErr.TheVariants as keys
 

@@ -2,5 +2,4 @@ pub mod Words
 pub mod Keys
 pub mod Lines
 pub mod Answers
-pub mod Messages
 pub mod Ends

@@ -1,14 +1,12 @@
 -- What is written of each output: whether its answer can be had from parts, and by which columns.
-use Rattle.std.specs.Prelude.{ℕ, Bool, not, if◌then◌else◌, List, [], ◌∷◌, ◌++◌, length, Option, Some, None, slice_get, slice_index_or, codes}
+use Rattle.std.specs.Prelude.{ℕ, Bool, not, if◌then◌else◌, List, [], ◌∷◌, ◌++◌, length, Option, Some, None, slice_index_or, codes}
 use Rattle.std.specs.List.{find, flat_map, list_any}
 use Rattle.sq_words.specs.Lists.{numbers_to}
 use Rattle.sq_value.specs.Values.{Columns, names_of}
-use Rattle.sq_net.specs.declared.Body.{Body}
-use Rattle.sq_net.specs.declared.Body.TheVariants.{Filter, Map, Union, BSort, Aggregate, Join, Resample}
 use Rattle.sq_net.specs.declared.Network.{Network}
-use Rattle.sq_net.specs.declared.Node.{Node}
 use Rattle.sq_net.specs.declared.Output.{Output}
 use Rattle.sq_net.specs.Streams.{columns_of_stream}
+use Rattle.sq_teller.specs.Boxes.{box_line}
 use Rattle.sq_shard.specs.declared.Cut.{Cut}
 use Rattle.sq_shard.specs.declared.Cut.TheVariants.{Whole, By}
 use Rattle.sq_shard.specs.Keys.{cut_at, cuts_of, is_known_cut, loses_key}
@@ -42,26 +40,9 @@ output_lines n cuts (o ∷ os) (s ∷ ss) = keys_line n cuts o s ++ output_lines
 abbrev pub some_lost : List Cut → List ℕ → Bool
 some_lost cuts streams = list_any (λ s. not (is_known_cut (cut_at cuts s))) streams
 
-abbrev pub kind_text : Body → List ℕ
-kind_text (Filter preds) = codes "filter"
-kind_text (Map exprs) = codes "map"
-kind_text Union = codes "union"
-kind_text (BSort by slack) = codes "bsort"
-kind_text (Aggregate funcs group window) = codes "aggregate"
-kind_text (Join size on) = codes "join"
-kind_text (Resample size funcs) = codes "resample"
-
-abbrev pub box_text : Option Node → List ℕ
-box_text None = []
-box_text (Some b) = codes "@loses," ++ (b.name ++ (codes "," ++ (kind_text b.body ++ codes "\n")))
-
-abbrev pub box_at : Network → Option ℕ → Option Node
-box_at n None = None
-box_at n (Some at) = slice_get n.boxes at
-
 -- the first box that loses the key
 abbrev pub loss_line : Network → Bool → List Cut → List ℕ
-loss_line n on_time cuts = box_text (box_at n (find (loses_key n on_time (cut_at cuts)) (numbers_to (length n.boxes))))
+loss_line n on_time cuts = box_line (codes "@loses") n (find (loses_key n on_time (cut_at cuts)) (numbers_to (length n.boxes)))
 
 abbrev pub text_by : Network → Bool → List Cut → List ℕ
 text_by n on_time cuts =

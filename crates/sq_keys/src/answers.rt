@@ -2,13 +2,16 @@
 ghost use Rattle.std.specs.Prelude.{◌≡◌, ◌≢◌, ◌<◌, ◌^◌, Ok, IfErr, IfOk, length};
 ghost use Rattle.sq_net.specs.declared.NetErr.TheVariants as net;
 ghost use Rattle.sq_net.specs.SoundNetworks.{IsSound};
-ghost use Rattle.sq_keys.specs.Answers.{IsRefused, Says, reply_of, by_network};
+ghost use Rattle.sq_teller.specs.Replies.{IsRefused, Says};
+ghost use Rattle.sq_keys.specs.Answers.{by_network, reply_of};
 
 use crate::keys::cuts_asked;
 use crate::lines::keys_text;
-use crate::{Asked, KeysErr, Status};
+use crate::{Asked, KeysErr};
 use sq_net::{NetErr, Network};
 use sq_reader::read_network;
+use sq_teller::{Inquiry, Status};
+use sq_value::Name;
 use std::alloc::Global;
 
 // What is answered where this is the network.
@@ -30,16 +33,22 @@ fn answer_for(alloc: Global, asked: &Asked, n: &Network) -> Result<(Vec<u8>, boo
     }
 }
 
-// What is answered where these are the bytes of the network file: a text, and whether an output is lost.
-pub(crate) fn answer(alloc: Global, asked: &Asked, bytes: &[u8]) -> Result<(Vec<u8>, bool), Status>
-    requires few { length asked.now.pairs < 2 ^ 32 }
-    ensures says { IfOk result (λ r. reply_of asked.now bytes.now ≡ Says r.0.items r.1) }
-    ensures refused { IfErr result (λ s. IsRefused (reply_of asked.now bytes.now) s) }
-    ensures no_memory { IfErr result (λ s. s ≢ Status.BadNetwork net.Memory) }
-{
-    match read_network(alloc, bytes) {
-        Ok(n) => answer_for(alloc, asked, &n),
-        Err(NetErr::Memory) => Err(Status::Memory),
-        Err(e) => Err(Status::BadNetwork(e)),
+impl Inquiry for Asked {
+    ghost file = { λ a. a.net };
+
+    ghost reply = { reply_of };
+
+    ghost can_answer = { λ a. length a.pairs < 2 ^ 32 };
+
+    fn file(&self) -> &Name {
+        &self.net
+    }
+
+    fn answer(&self, alloc: Global, bytes: &[u8]) -> Result<(Vec<u8>, bool), Status> {
+        match read_network(alloc, bytes) {
+            Ok(n) => answer_for(alloc, self, &n),
+            Err(NetErr::Memory) => Err(Status::Memory),
+            Err(e) => Err(Status::BadNetwork(e)),
+        }
     }
 }

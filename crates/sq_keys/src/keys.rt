@@ -5,8 +5,9 @@ ghost use Rattle.std.specs.Option.{option_copied};
 ghost use Rattle.sq_words.specs.Lists.{same_bytes};
 ghost use Rattle.sq_keys.specs.Keys.{IsBadKey, column_by, column_for, column_named, cuts_asked, first_bad, is_paired, pair_named, source_named, why_bad};
 
-use crate::{KeyWhy, KeysErr, Pair};
+use crate::{KeysErr, Pair};
 use sq_net::Source;
+use sq_teller::KeyWhy;
 use sq_value::{Name, Schema, same_text};
 use std::alloc::{AllocError, Global};
 

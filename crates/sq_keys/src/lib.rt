@@ -3,31 +3,27 @@
 //! The contract of `run_keys` promises over every folder and every sink: where the words ask for a network and name sources
 //! with the fields by which they are cut, the text that is written is that of its definition, for the network that the bytes say
 //! which the folder gave in this run. A refusal is that of the first rule that is broken, want of memory aside. Below stand
-//! `sq_shard` for where keys stand, `sq_reader` for networks, `sq_refusal` for why a file is none, and `sq_outside` for the
-//! objects.
+//! `sq_shard` for where keys stand, `sq_reader` for networks, and `sq_teller` for what both programs do.
 #![tactic(auto)]
 
 ghost use Rattle.std.specs.Prelude.{◌≡◌, ◌≢◌, ◌≤◌, map};
 ghost use Rattle.std.specs.String.{string_bytes};
 ghost use Rattle.sq_net.specs.declared.NetErr.TheVariants as net;
-ghost use Rattle.sq_keys.specs.Ends.{KeysEnds, TellsKeysStatus};
-ghost use Rattle.sq_keys.specs.Messages.{keys_code};
-ghost use Rattle.sq_keys.specs.Words.{asked_in};
 ghost use Rattle.sq_outside.specs.Sinks.{AppendsSuch};
+ghost use Rattle.sq_teller.specs.Ends.{TellsStatus};
+ghost use Rattle.sq_keys.specs.Ends.{KeysEnds};
+ghost use Rattle.sq_keys.specs.Words.{asked_in};
 
 mod answers;
 mod keys;
 mod lines;
-mod messages;
-mod running;
 mod words;
 
 pub use keys::cuts_asked;
 pub use lines::keys_text;
-use messages::tell;
-use running::run;
 use sq_net::NetErr;
 use sq_outside::{Folder, Sink};
+use sq_teller::{KeyWhy, Program, Status, WordsErr, answered, told};
 use sq_value::{ListOf, Name};
 use std::alloc::Global;
 pub use words::read_words;
@@ -49,72 +45,12 @@ pub struct Asked {
     pub pairs: ListOf<Pair>,
 }
 
-/// Why words ask for nothing.
-#[derive(Clone, Copy, PartialEq, Eq, Drop)]
-pub enum WordsErr {
-    Usage,
-    Memory,
-}
-
-/// Why a pair names no key.
-#[derive(Clone, Copy, PartialEq, Eq, Drop)]
-pub enum KeyWhy {
-    /// The network has no source of that name.
-    NoSource,
-    /// The source was named before.
-    Twice,
-    /// The source has no field of that name.
-    NoField,
-}
-
 /// The pairs that words name are no keys.
 #[derive(Clone, Copy, PartialEq, Eq, Drop)]
 pub enum KeysErr {
     /// The first pair, by its number from 1, that breaks a rule, and the first rule that it breaks.
     Bad { key: u32, why: KeyWhy },
     Memory,
-}
-
-/// How a call ended.
-#[derive(Drop)]
-pub enum Status {
-    /// All outputs can be had from parts.
-    Ok,
-    /// An output can't.
-    Lost,
-    /// The words ask for nothing.
-    Usage,
-    /// The network file breaks this rule, the first in their order.
-    BadNetwork(NetErr),
-    /// The file wasn't read: it isn't there, or the folder failed.
-    FolderFault { name: Name },
-    /// The output failed.
-    SinkFault,
-    /// The file is longer than a network file may be.
-    TooLong { name: Name },
-    /// Memory ran out.
-    Memory,
-    /// The first pair, by its number from 1, that breaks a rule, and the first rule that it breaks.
-    BadKey { key: u32, why: KeyWhy },
-}
-
-impl Status {
-    /// The status with which the program ends.
-    pub fn code(&self) -> u8
-        ensures { result ≡ keys_code self.now }
-    {
-        match self {
-            Status::Ok => 0,
-            Status::Lost => 1,
-            Status::Usage => 2,
-            Status::BadNetwork(_) => 3,
-            Status::FolderFault { .. } => 7,
-            Status::SinkFault => 10,
-            Status::TooLong { .. } => 11,
-            Status::Memory => 12,
-            Status::BadKey { .. } => 18,
-        }
-    }
 }
 
 /// Does what the words ask for, and tells any status but Ok and Lost to `err`.
@@ -140,15 +76,16 @@ pub fn run_keys<F: Folder, S: Sink, E: Sink>(
       sink_now = S.faults out.new;
     })
         result }
-    ensures tells { AppendsSuch (E.written err.old) (E.written err.new) (TellsKeysStatus (E.faults err.old) (E.faults err.new) result) }
+    ensures tells { AppendsSuch (E.written err.old) (E.written err.new) (TellsStatus Program.Keys (E.faults err.old) (E.faults err.new) result) }
     ensures no_memory { result ≢ Status.BadNetwork net.Memory }
     ensures same_files { F.files folder.new ≡ F.files folder.old }
     ensures later { (F.faults folder.old ≤ F.faults folder.new) × (F.taken folder.old ≤ F.taken folder.new)
         × (S.faults out.old ≤ S.faults out.new) × (E.faults err.old ≤ E.faults err.new) }
 {
-    match run(alloc, words, folder, out) {
-        Status::Ok => Status::Ok,
-        Status::Lost => Status::Lost,
-        status => tell(alloc, status, err),
-    }
+    let status = match read_words(alloc, words) {
+        Ok(asked) => answered(alloc, &asked, folder, out),
+        Err(WordsErr::Usage) => Status::Usage,
+        Err(WordsErr::Memory) => Status::Memory,
+    };
+    told(alloc, Program::Keys, status, err)
 }

@@ -1,13 +1,14 @@
 // What is written of each output.
-ghost use Rattle.std.specs.Prelude.{◌≡◌, ◌<◌, ◌^◌, ◌++◌, IfOk, OnOk, Some, not, length, slice_index_or, []};
+ghost use Rattle.std.specs.Prelude.{◌≡◌, ◌<◌, ◌^◌, ◌++◌, IfOk, OnOk, not, length, slice_index_or, []};
 ghost use Rattle.std.specs.List.{flat_map};
 ghost use Rattle.sq_net.specs.SoundNetworks.{IsSound};
 ghost use Rattle.sq_shard.specs.Keys.{cut_at, is_known_cut};
-ghost use Rattle.sq_keys.specs.Lines.{box_text, column_text, cut_text, is_lost, keys_text, kind_text, loss_line, names_at, keys_line, output_lines, some_lost};
+ghost use Rattle.sq_keys.specs.Lines.{column_text, cut_text, is_lost, keys_text, loss_line, names_at, keys_line, output_lines, some_lost};
 
 use sq_graph::{Producer, given_by};
-use sq_net::{Body, Network, Node, Output};
+use sq_net::{Network, Output};
 use sq_shard::{Cut, first_loss, key_columns};
+use sq_teller::put_box_line;
 use sq_value::Name;
 use std::alloc::{AllocError, Global};
 
@@ -133,31 +134,6 @@ fn some_lost(cuts: &[Cut], streams: &[u32]) -> bool
     streams.iter().any(|stream| is_stream_lost(cuts, *stream))
 }
 
-fn kind_text(body: &Body) -> &'static str
-    ensures { result.now ≡ kind_text body.now }
-{
-    match body {
-        Body::Filter { .. } => "filter",
-        Body::Map { .. } => "map",
-        Body::Union => "union",
-        Body::BSort { .. } => "bsort",
-        Body::Aggregate { .. } => "aggregate",
-        Body::Join { .. } => "join",
-        Body::Resample { .. } => "resample",
-    }
-}
-
-fn put_box(node: &Node, text: &mut Vec<u8>) -> Result<(), AllocError>
-    ensures { OnOk result (text.new.items ≡ text.old.items ++ box_text (Some node.now)) }
-{
-    text.extend_from_slice(b"@loses,")?;
-    text.extend_from_slice(node.name.as_str().as_bytes())?;
-    text.extend_from_slice(b",")?;
-    text.extend_from_slice(kind_text(&node.body).as_bytes())?;
-    text.extend_from_slice(b"\n")?;
-    Ok(())
-}
-
 // The line of the first box that loses the key.
 fn put_loss(
     alloc: Global,
@@ -169,13 +145,8 @@ fn put_loss(
     requires sound { IsSound n.now }
     ensures { OnOk result (text.new.items ≡ text.old.items ++ loss_line n.now on_time cuts.now) }
 {
-    let Some(at) = first_loss(alloc, n, on_time, cuts)? else {
-        return Ok(());
-    };
-    match n.boxes.as_slice().get(at as usize) {
-        Some(node) => put_box(node, text),
-        None => Ok(()),
-    }
+    let at = first_loss(alloc, n, on_time, cuts)?;
+    put_box_line("@loses", n, at, text)
 }
 
 /// A line for each output, and where one is lost the line of the first box that loses the key; and whether one is lost.

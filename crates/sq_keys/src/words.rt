@@ -2,9 +2,9 @@
 ghost use Rattle.std.specs.Prelude.{◌≡◌, ◌≤◌, Err, IfOk, None, Some, length, map};
 ghost use Rattle.std.specs.String.{string_bytes};
 ghost use Rattle.sq_keys.specs.Words.{asked_behind, asked_in, pair_in, pairs_in, whole_pair};
-ghost use Rattle.sq_value.specs.CommandWords.{may_name};
 
-use crate::{Asked, Pair, WordsErr};
+use crate::{Asked, Pair};
+use sq_teller::{WordsErr, may_name};
 use sq_value::{ListOf, Name, same_text};
 use std::alloc::{AllocError, Global};
 
@@ -57,16 +57,6 @@ fn pairs_in(alloc: Global, words: &[String]) -> Result<Vec<Pair>, WordsErr>
         }
     }
     Ok(pairs)
-}
-
-// Whether a word may name a file: it isn't empty and doesn't begin with a dash.
-fn may_name(word: &str) -> bool
-    ensures { result ≡ may_name word.now }
-{
-    match word.as_bytes() {
-        [] => false,
-        [first, ..] => *first != b'-',
-    }
 }
 
 // What words behind `--on-time` ask for, or all words where it doesn't stand before them.

@@ -20,13 +20,13 @@ use Rattle.sq_net.specs.declared.Body.{Body}
 use Rattle.sq_net.specs.declared.Body.TheVariants.{Filter, Map, Union, BSort, Aggregate, Join, Resample}
 use Rattle.sq_net.specs.declared.Network.{Network}
 use Rattle.sq_net.specs.declared.Node.{Node}
-use Rattle.sq_net.specs.SoundNetworks.{IsSound, HasWindow, body_within, node_within, is_between}
+use Rattle.sq_net.specs.SoundNetworks.{IsSound, HasWindow, body_within, network_within, node_within, is_between}
 use Rattle.sq_points.proofs.Bounds.{few_streams, nodes_within, takes_all, all_take_few, counts, at_most}
 use Rattle.sq_slices.specs.declared.Grid.{Grid}
 use Rattle.sq_slices.specs.declared.Reach.{Reach}
 use Rattle.sq_slices.specs.Grids.{IsGrid, gap, pad, moved, ahead_from}
 use Rattle.sq_slices.specs.Bounds.{IsLow, AreLow}
-use Rattle.sq_slices.specs.Reaches.{own_reach, earlier, later, beside, both, starts, windowed, both_if, union_reach, reach_at, box_reach, box_reach_at, reach_given, reach_of, reach_within, reaches_of}
+use Rattle.sq_slices.specs.Reaches.{own_reach, earlier, later, beside, both, starts, windowed, both_if, union_reach, reach_at, box_reach, box_reach_at, reach_given, reach_of, reach_within, reaches_of, output_reaches_of}
 use Rattle.sq_slices.proofs.GridLemmas.{gap-low}
 
 pad-low : (g h : Grid) → IsGrid h → pad g h < h.step
@@ -225,3 +225,18 @@ all-few n sound delay =
 
 pub all-union-low : (n : Network) → IsSound n → (delay : Option ℕ) → IfSome delay (λ d. d < 2 ^ 40) → IfSome (union_reach (reaches_of n delay)) (IsLow (2 ^ 60))
 all-union-low n sound delay small = union-rest 0 (reaches_of n delay) (all-few n sound delay) (all-low n sound delay small (numbers_to (length (producers_of n.wires))))
+
+outputs_within : (n : Network) → network_within n ≡ true → is_between 1 32 (length n.outputs) ≡ true
+outputs_within n h = (and_true _ _ (and_true _ _ (and_true _ _ (and_true _ _ (and_true _ _ (and_true _ _ (and_true _ _ h).0).0).0).0).0).0).1
+
+pub outputs-few : (n : Network) → IsSound n → (delay : Option ℕ) → length (output_reaches_of n delay) ≤ 2 ^ 20
+outputs-few n sound delay =
+    let count = length-mapped (reach_at (reaches_of n delay)) n.wires.outputs in
+    let few = at_most 1 32 (length n.outputs) (outputs_within n sound.within) in
+    let same = sound.agrees.outputs in
+    omega (arith, count, few, same)
+
+pub outputs-low : (n : Network) → IsSound n → (delay : Option ℕ) → IfSome delay (λ d. d < 2 ^ 40) → AreLow (2 ^ 59) (output_reaches_of n delay)
+outputs-low n sound delay small =
+    at-low (2 ^ 59) (output_reaches_of n delay)
+    (all-mapped (2 ^ 59) (reach_at (reaches_of n delay)) (all-low n sound delay small (numbers_to (length (producers_of n.wires)))) n.wires.outputs)

@@ -4,7 +4,7 @@
 --     is_uncut n delay reaches at       a box gives what can't be sliced, though what it takes can
 -- `delay` is how many ticks after its time a tuple may come to a BSort; none where that isn't known.
 use Rattle.std.specs.Prelude.{◌≡◌, ℕ, zero, suc, ◌+◌, ◌-◌, ◌&&◌, nat_le, max, Bool, not, if◌then◌else◌, List, [], ◌∷◌, map, length, Option, Some, None, slice_get, slice_index_or, is_some}
-use Rattle.std.specs.List.{list_all}
+use Rattle.std.specs.List.{find, list_all}
 use Rattle.std.specs.Option.{option_map}
 use Rattle.sq_words.specs.Lists.{numbers_to}
 use Rattle.sq_aggfn.specs.declared.WindowSpec.{WindowSpec}
@@ -99,7 +99,18 @@ reach_of n delay s = reach_within n delay (length n.boxes + 1) s
 abbrev pub reaches_of : Network → Option ℕ → List (Option Reach)
 reaches_of n delay = map (reach_of n delay) (numbers_to (length (producers_of n.wires)))
 
+-- those of the outputs, and the reach that serves them all
+abbrev pub output_reaches_of : Network → Option ℕ → List (Option Reach)
+output_reaches_of n delay = map (reach_at (reaches_of n delay)) n.wires.outputs
+
+abbrev pub outputs_reach : Network → Option ℕ → Option Reach
+outputs_reach n delay = union_reach (output_reaches_of n delay)
+
 abbrev pub is_uncut : Network → Option ℕ → (ℕ → Option Reach) → ℕ → Bool
 is_uncut n delay reaches at =
     list_all (λ s. is_some (reaches s)) (inputs_of n.wires at)
     && not (is_some (box_reach_at delay (slice_get n.boxes at) (map reaches (inputs_of n.wires at))))
+
+-- the least box, by its number, that is the reason
+abbrev pub first_uncut : Network → Option ℕ → Option ℕ
+first_uncut n delay = find (is_uncut n delay (reach_at (reaches_of n delay))) (numbers_to (length n.boxes))

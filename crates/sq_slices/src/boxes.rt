@@ -105,8 +105,8 @@ pub(crate) fn reach_at(reaches: &[Option<Reach>], number: usize) -> Option<Reach
     }
 }
 
-/// How far slices of all these streams reach.
-pub fn union_reach(reaches: &[Option<Reach>]) -> Option<Reach>
+// How far slices of all these streams reach.
+pub(crate) fn union_reach(reaches: &[Option<Reach>]) -> Option<Reach>
     requires few { length reaches.now ≤ 2 ^ 20 }
     requires low { AreLow (2 ^ 59) reaches.now }
     ensures { result ≡ union_reach reaches.now }

@@ -13,12 +13,11 @@ mod cuts;
 mod laws;
 mod rounds;
 
-pub use boxes::union_reach;
 pub use laws::{
     reaches_follow, slices_answer_slices, slices_make_the_run, slices_make_the_whole,
     slices_make_them_all, slices_show_the_run, slices_show_the_same, uncut_are_named,
 };
-pub use rounds::{first_uncut, output_reaches, reaches, run_reach};
+pub use rounds::{first_uncut, output_reaches, outputs_reach, reaches, run_reach};
 
 /// Where slices may end: at the ticks `phase`, `phase + step`, ..
 #[derive(Clone, Copy, PartialEq, Eq, Drop)]

@@ -7,7 +7,7 @@ ghost use Rattle.sq_graph.specs.Wires.{inputs_of, producer_of};
 ghost use Rattle.sq_net.specs.SoundNetworks.{IsSound};
 ghost use Rattle.sq_slices.specs.Bounds.{AreLow};
 ghost use Rattle.sq_slices.specs.Laws.{run_reach};
-ghost use Rattle.sq_slices.specs.Reaches.{box_reach_at, is_uncut, reach_at, reach_given, reaches_of};
+ghost use Rattle.sq_slices.specs.Reaches.{box_reach_at, first_uncut, is_uncut, output_reaches_of, outputs_reach, reach_at, reach_given, reaches_of};
 
 use crate::Reach;
 use crate::boxes::{box_reach, earlier_if, own_reach, reach_at, union_reach};
@@ -138,10 +138,24 @@ pub fn output_reaches(
 ) -> Result<Vec<Option<Reach>>, AllocError>
     requires sound { IsSound n.now }
     requires delay { IfSome delay (λ d. d < 2 ^ 40) }
-    ensures { IfOk result (λ v. v.items ≡ map (reach_at (reaches_of n.now delay)) n.now.wires.outputs) }
+    ensures { IfOk result (λ v. v.items ≡ output_reaches_of n.now delay) }
 {
     let all = reaches(alloc, n, delay)?;
     taken_reaches(alloc, &all, n.wires.outputs.as_slice())
+}
+
+/// How far slices reach that serve all outputs.
+pub fn outputs_reach(
+    alloc: Global,
+    n: &Network,
+    delay: Option<u64>,
+) -> Result<Option<Reach>, AllocError>
+    requires sound { IsSound n.now }
+    requires delay { IfSome delay (λ d. d < 2 ^ 40) }
+    ensures { IfOk result (λ r. r ≡ outputs_reach n.now delay) }
+{
+    let each = output_reaches(alloc, n, delay)?;
+    Ok(union_reach(&each))
 }
 
 /// How far slices of a run reach that make the whole where each of them is in time.
@@ -180,9 +194,8 @@ fn is_uncut(
     Ok(port_reach(alloc, n, delay, reaches, at)?.is_none())
 }
 
-/// The first box, by its number, that gives what can't be sliced, though what it takes can, where these are the reaches of all
-/// streams.
-pub fn first_uncut(
+// The first box that is the reason, where these are the reaches of all streams.
+fn uncut_among(
     alloc: Global,
     n: &Network,
     delay: Option<u64>,
@@ -199,4 +212,18 @@ pub fn first_uncut(
         }
     }
     Ok(None)
+}
+
+/// The first box, by its number, that gives what can't be sliced, though what it takes can.
+pub fn first_uncut(
+    alloc: Global,
+    n: &Network,
+    delay: Option<u64>,
+) -> Result<Option<u32>, AllocError>
+    requires sound { IsSound n.now }
+    requires delay { IfSome delay (λ d. d < 2 ^ 40) }
+    ensures { IfOk result (λ o. o ≡ first_uncut n.now delay) }
+{
+    let all = reaches(alloc, n, delay)?;
+    uncut_among(alloc, n, delay, &all)
 }

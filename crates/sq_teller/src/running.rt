@@ -1,20 +1,39 @@
-// What words ask for, done over a folder and a sink.
-ghost use Rattle.std.specs.Prelude.{◌≡◌, ◌≢◌, ◌≤◌, ◌<◌, ◌^◌, IfErr, IfOk, OnErr, OnOk, Some, length, map};
-ghost use Rattle.std.specs.String.{string_bytes};
+// What is asked about a network, answered over a folder and a sink.
+ghost use Rattle.std.specs.Prelude.{◌≡◌, ◌≢◌, ◌≤◌, ℕ, List, IfErr, IfOk, OnErr, OnOk};
 ghost use Rattle.sq_net.specs.declared.NetErr.TheVariants as net;
-ghost use Rattle.sq_keys.specs.Answers.{lost_status};
-ghost use Rattle.sq_keys.specs.Ends.{KeysEnds, IsReadAs, IsUnreadAs, WritesText};
-ghost use Rattle.sq_keys.specs.Words.{asked_in};
+ghost use Rattle.sq_teller.specs.Ends.{EndsAsked, IsReadAs, IsUnreadAs, WritesText};
+ghost use Rattle.sq_teller.specs.Replies.{IsRefused, Reply, Says, lost_status};
 
-use crate::answers::answer;
-use crate::words::read_words;
-use crate::{Asked, Status, WordsErr};
+use crate::Status;
 use sq_outside::{Failed, Folder, FolderErr, Sink, write_all};
 use sq_value::{Name, copy_name};
 use std::alloc::Global;
 
 /// How many bytes a network file may have.
 const NETWORK_LIMIT: u64 = 1_048_576;
+
+/// What is asked about a network.
+pub trait Inquiry {
+    /// The name of the network's file.
+    ghost file: { Self → List ℕ };
+
+    /// What is answered where these are its bytes.
+    ghost reply: { Self → List ℕ → Reply };
+
+    /// Whether it can be answered.
+    ghost can_answer: { Self → Type 0 };
+
+    /// The name of the network's file.
+    fn file(&self) -> &Name
+        ensures { result.now ≡ file self.now };
+
+    /// A text, and whether an output is lost; or why there is none.
+    fn answer(&self, alloc: Global, bytes: &[u8]) -> Result<(Vec<u8>, bool), Status>
+        requires { can_answer self.now }
+        ensures says { IfOk result (λ r. reply self.now bytes.now ≡ Says r.0.items r.1) }
+        ensures refused { IfErr result (λ s. IsRefused (reply self.now bytes.now) s) }
+        ensures no_memory { IfErr result (λ s. s ≢ Status.BadNetwork net.Memory) };
+}
 
 // The bytes of the network file, or the status of a call that doesn't get them.
 fn read_file<F: Folder>(alloc: Global, folder: &mut F, name: &Name) -> Result<Vec<u8>, Status>
@@ -59,15 +78,15 @@ fn write_text<S: Sink>(text: &[u8], lost: bool, out: &mut S) -> Status
     }
 }
 
-// Does what was asked for, and says how it ended.
-fn run_asked<F: Folder, S: Sink>(
+/// Reads the file that is asked for, writes what is answered by its bytes, and says how that ended.
+pub fn answered<Q: Inquiry, F: Folder, S: Sink>(
     alloc: Global,
-    asked: &Asked,
+    asked: &Q,
     folder: &mut F,
     out: &mut S,
 ) -> Status
-    requires few { length asked.now.pairs < 2 ^ 32 }
-    ensures ends { KeysEnds (Some asked.now) (record {
+    requires { Q.can_answer asked.now }
+    ensures ends { EndsAsked (Q.file asked.now) (Q.reply asked.now) (record {
       told = F.files folder.old;
       folder_before = F.faults folder.old;
       folder_now = F.faults folder.new;
@@ -85,44 +104,12 @@ fn run_asked<F: Folder, S: Sink>(
     ensures files { F.files folder.new ≡ F.files folder.old }
     ensures later { (F.faults folder.old ≤ F.faults folder.new) × (F.taken folder.old ≤ F.taken folder.new) × (S.faults out.old ≤ S.faults out.new) }
 {
-    let bytes = match read_file(alloc, folder, &asked.net) {
+    let bytes = match read_file(alloc, folder, asked.file()) {
         Ok(bytes) => bytes,
         Err(status) => return status,
     };
-    match answer(alloc, asked, bytes.as_slice()) {
+    match asked.answer(alloc, bytes.as_slice()) {
         Ok((text, lost)) => write_text(text.as_slice(), lost, out),
         Err(status) => status,
-    }
-}
-
-// Does what the words ask for, and says how it ended.
-pub(crate) fn run<F: Folder, S: Sink>(
-    alloc: Global,
-    words: &Vec<String>,
-    folder: &mut F,
-    out: &mut S,
-) -> Status
-    ensures ends { KeysEnds (asked_in (map string_bytes words.now.items)) (record {
-      told = F.files folder.old;
-      folder_before = F.faults folder.old;
-      folder_now = F.faults folder.new;
-      taken_before = F.taken folder.old;
-      taken_now = F.taken folder.new;
-      read_before = F.read folder.old;
-      read_now = F.read folder.new;
-      out_before = S.written out.old;
-      out_now = S.written out.new;
-      sink_before = S.faults out.old;
-      sink_now = S.faults out.new;
-    })
-        result }
-    ensures no_memory { result ≢ Status.BadNetwork net.Memory }
-    ensures files { F.files folder.new ≡ F.files folder.old }
-    ensures later { (F.faults folder.old ≤ F.faults folder.new) × (F.taken folder.old ≤ F.taken folder.new) × (S.faults out.old ≤ S.faults out.new) }
-{
-    match read_words(alloc, words) {
-        Ok(asked) => run_asked(alloc, &asked, folder, out),
-        Err(WordsErr::Usage) => Status::Usage,
-        Err(WordsErr::Memory) => Status::Memory,
     }
 }

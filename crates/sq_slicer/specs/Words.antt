@@ -1,0 +1,23 @@
+-- What words ask for.
+use Rattle.std.specs.Prelude.{ℕ, ◌^◌, if◌then◌else◌, List, [], ◌∷◌, Option, Some, None, codes}
+use Rattle.sq_words.specs.Lists.{same_bytes}
+use Rattle.sq_value.specs.CommandWords.{Word, may_name}
+use Rattle.sq_value.specs.Texts.{read_number}
+use Rattle.sq_slicer.specs.declared.Asked.{Asked}
+
+abbrev pub asked_of : Option ℕ → Word → Option Asked
+asked_of delay net = if may_name net then Some (record { delay = delay; net = net }) else None
+
+abbrev pub asked_delayed : Option ℕ → Word → Option Asked
+asked_delayed None net = None
+asked_delayed (Some delay) net = asked_of (Some delay) net
+
+-- `--delay TICKS NET`, with 1 to 13 digits of a number below 2^40
+abbrev pub asked_with : Word → Word → Word → Option Asked
+asked_with option ticks net = if same_bytes option (codes "--delay") then asked_delayed (read_number 13 (2 ^ 40) ticks) net else None
+
+-- `[--delay TICKS] NET`
+abbrev pub asked_in : List Word → Option Asked
+asked_in (net ∷ []) = asked_of None net
+asked_in (option ∷ ticks ∷ net ∷ []) = asked_with option ticks net
+asked_in ws = None

@@ -1,0 +1,36 @@
+// What is answered to words, by the bytes of the network file.
+ghost use Rattle.std.specs.Prelude.{◌<◌, ◌^◌};
+ghost use Rattle.std.specs.Option.{IfSome};
+ghost use Rattle.sq_slicer.specs.Answers.{reply_of};
+
+use crate::Asked;
+use crate::lines::slices_text;
+use sq_net::NetErr;
+use sq_reader::read_network;
+use sq_teller::{Inquiry, Status};
+use sq_value::Name;
+use std::alloc::Global;
+
+impl Inquiry for Asked {
+    ghost file = { λ a. a.net };
+
+    ghost reply = { reply_of };
+
+    ghost can_answer = { λ a. IfSome a.delay (λ d. d < 2 ^ 40) };
+
+    fn file(&self) -> &Name {
+        &self.net
+    }
+
+    fn answer(&self, alloc: Global, bytes: &[u8]) -> Result<(Vec<u8>, bool), Status> {
+        let n = match read_network(alloc, bytes) {
+            Ok(n) => n,
+            Err(NetErr::Memory) => return Err(Status::Memory),
+            Err(e) => return Err(Status::BadNetwork(e)),
+        };
+        match slices_text(alloc, &n, self.delay) {
+            Ok(said) => Ok(said),
+            Err(_) => Err(Status::Memory),
+        }
+    }
+}

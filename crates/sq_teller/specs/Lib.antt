@@ -1,0 +1,4 @@
+pub mod Boxes
+pub mod Replies
+pub mod Messages
+pub mod Ends

@@ -1,0 +1,133 @@
+// The message of each status.
+ghost use Rattle.std.specs.Prelude.{◌≡◌, ◌⊎◌, ◌≤◌, IfOk, string_bytes};
+ghost use Rattle.sq_outside.specs.Faults.{Rose};
+ghost use Rattle.sq_outside.specs.Sinks.{AppendsSuch};
+ghost use Rattle.sq_words.specs.Lists.{IsPrefixOf};
+ghost use Rattle.sq_teller.specs.Ends.{IsTold, TellsStatus};
+ghost use Rattle.sq_teller.specs.Messages.{key_why_text, message_of, name_text, usage_text};
+
+use crate::{KeyWhy, Program, Status};
+use sq_net::NetErr;
+use sq_outside::{Sink, write_all};
+use sq_refusal::refusal_text;
+use std::alloc::{AllocError, Global};
+
+fn name_text(program: Program) -> &'static str
+    ensures { result.now ≡ name_text program }
+{
+    match program {
+        Program::Keys => "aurora_keys",
+        Program::Slices => "aurora_slices",
+    }
+}
+
+fn usage_text(program: Program) -> &'static str
+    ensures { result.now ≡ usage_text program }
+{
+    match program {
+        Program::Keys => "aurora_keys [--on-time] NET SOURCE=FIELD..",
+        Program::Slices => "aurora_slices [--delay TICKS] NET",
+    }
+}
+
+fn key_why_text(why: KeyWhy) -> &'static str
+    ensures { result.now ≡ key_why_text why }
+{
+    match why {
+        KeyWhy::NoSource => "NoSource",
+        KeyWhy::Twice => "Twice",
+        KeyWhy::NoField => "NoField",
+    }
+}
+
+// The lines that take no memory.
+fn failed_line(program: Program) -> &'static str
+    ensures { result.now ≡ message_of program Status.SinkFault }
+{
+    match program {
+        Program::Keys => "aurora_keys: output failed\n",
+        Program::Slices => "aurora_slices: output failed\n",
+    }
+}
+
+fn memory_line(program: Program) -> &'static str
+    ensures { result.now ≡ message_of program Status.Memory }
+{
+    match program {
+        Program::Keys => "aurora_keys: out of memory\n",
+        Program::Slices => "aurora_slices: out of memory\n",
+    }
+}
+
+fn network_message(alloc: Global, program: Program, e: NetErr) -> Result<String, AllocError>
+    ensures { IfOk result (λ text. string_bytes text ≡ message_of program (Status.BadNetwork e)) }
+{
+    let name = name_text(program);
+    let refusal = refusal_text(alloc, e)?;
+    let said = refusal.as_str();
+    format!(in alloc; "{name}: network: {said}\n")
+}
+
+// The line of a status.
+fn message_of(alloc: Global, program: Program, status: &Status) -> Result<String, AllocError>
+    ensures { IfOk result (λ text. string_bytes text ≡ message_of program status.now) }
+{
+    let name = name_text(program);
+    match status {
+        Status::Ok | Status::Lost => String::from_str(alloc, ""),
+        Status::Usage => {
+            let usage = usage_text(program);
+            format!(in alloc; "{name}: usage: {usage}\n")
+        }
+        Status::BadNetwork(e) => network_message(alloc, program, *e),
+        Status::FolderFault { name: file } => {
+            let file = file.as_str();
+            format!(in alloc; "{name}: cannot read {file}\n")
+        }
+        Status::SinkFault => String::from_str(alloc, failed_line(program)),
+        Status::TooLong { name: file } => {
+            let file = file.as_str();
+            format!(in alloc; "{name}: file too long: {file}\n")
+        }
+        Status::Memory => String::from_str(alloc, memory_line(program)),
+        Status::BadKey { key, why } => {
+            let why = key_why_text(*why);
+            format!(in alloc; "{name}: key {key}: {why}\n")
+        }
+    }
+}
+
+// Writes a message as far as the sink takes it.
+fn say<E: Sink>(err: &mut E, text: &[u8])
+    ensures told { AppendsSuch (E.written err.old) (E.written err.new) (λ said. (said ≡ text.now) ⊎ (Rose (E.faults err.old) (E.faults err.new) × IsPrefixOf said text.now)) }
+    ensures later { E.faults err.old ≤ E.faults err.new }
+{
+    let _ = write_all(err, text);
+}
+
+/// Tells how a call ended, and how it ends with that: Ok and Lost have no line, and where there is no memory for the line, memory
+/// ran out.
+pub fn told<E: Sink>(alloc: Global, program: Program, status: Status, err: &mut E) -> Status
+    ensures status { IsTold status result }
+    ensures told { AppendsSuch (E.written err.old) (E.written err.new) (TellsStatus program (E.faults err.old) (E.faults err.new) result) }
+    ensures later { E.faults err.old ≤ E.faults err.new }
+{
+    match status {
+        Status::Ok => Status::Ok,
+        Status::Lost => Status::Lost,
+        Status::SinkFault => {
+            say(err, failed_line(program).as_bytes());
+            Status::SinkFault
+        }
+        status => match message_of(alloc, program, &status) {
+            Ok(text) => {
+                say(err, text.as_str().as_bytes());
+                status
+            }
+            Err(_) => {
+                say(err, memory_line(program).as_bytes());
+                Status::Memory
+            }
+        },
+    }
+}
