@@ -14,15 +14,16 @@ use Rattle.sq_words.proofs.Numbers.{eq_from, leb_from, times_up}
 use Rattle.sq_graph.specs.Wires.{output_arc_at}
 use Rattle.sq_place.specs.declared.DropPoint.{DropPoint}
 use Rattle.sq_place.specs.Points.{until_of}
+use Rattle.sq_lines.specs.LineTexts.{drop_line}
 use Rattle.sq_points.specs.Above.{drop_above_output}
 use Rattle.sq_points.specs.Points.{setting_of}
 use Rattle.sq_plan.specs.PlanRows.{level_for}
 use Rattle.sq_road.specs.Draws.{draw_of}
 use Rattle.sq_model.specs.FullStreams.{full_arc}
 use Rattle.sq_model.specs.Shedding.{Replay, is_touched, last_of, touched_by, batch_level, is_dropped, full_at, record_of, shown}
-use Rattle.sq_shard.proofs.Lists.{filter-swap, filter-under, filter-same, all-pass}
+use Rattle.sq_shard.proofs.Lists.{filter-swap, filter-under, filter-same, all-pass, map-same}
 use Rattle.sq_slices.specs.Slices.{in_slice, slice, AgreeIn, SourcesAgree}
-use Rattle.sq_slices.specs.Drops.{with_sources, batch_begin, epoch_before, BatchesAgree, SlicesShowTheSame}
+use Rattle.sq_slices.specs.Drops.{with_sources, batch_begin, kept_until, epoch_before, BatchesAgree, SlicesShowTheSame, drops_in, SlicesDropTheSame}
 use Rattle.sq_slices.proofs.SliceLemmas.{narrower}
 
 -- ---- lists
@@ -74,6 +75,40 @@ contains-range a (suc n) k low high =
 
     same : (a k : ℕ) → a ≡ k → eqb a k ≡ true
     same a k h = grind (arith, nat_tests)
+
+-- two tests, one after the other
+filter-filter : {X : Type 0} (p q : X → Bool) (xs : List X) → filter p (filter q xs) ≡ filter (λ x. p x && q x) xs
+filter-filter p q [] = refl
+filter-filter {X} p q (x ∷ xs) = by (filter-filter p q xs) (p x) (q x) refl refl
+  where
+    by : filter p (filter q xs) ≡ filter (λ x. p x && q x) xs → (a b : Bool) → p x ≡ a → q x ≡ b
+        → filter p (cond b (x ∷ filter q xs) (filter q xs)) ≡ cond (a && b) (x ∷ filter (λ x. p x && q x) xs) (filter (λ x. p x && q x) xs)
+    by more true true pa qb = ap (λ c. cond c (x ∷ filter p (filter q xs)) (filter p (filter q xs))) pa ∙ ap (λ zs. x ∷ zs) more
+    by more true false pa qb = more
+    by more false true pa qb = ap (λ c. cond c (x ∷ filter p (filter q xs)) (filter p (filter q xs))) pa ∙ more
+    by more false false pa qb = more
+
+pub filter-each : {X : Type 0} (p q : X → Bool) → ((x : X) → p x ≡ q x) → (xs : List X) → filter p xs ≡ filter q xs
+filter-each p q h [] = refl
+filter-each p q h (x ∷ xs) = ap (λ b. cond b (x ∷ filter p xs) (filter p xs)) (h x) ∙ ap (λ zs. cond (q x) (x ∷ zs) zs) (filter-each p q h xs)
+
+-- numbers that don't pass add nothing
+filter-past : (f : ℕ → Bool) (a n : ℕ) → ((k : ℕ) → a ≤ k → f k ≡ false) → filter f (range_with_len a n) ≡ []
+filter-past f a zero h = refl
+filter-past f a (suc n) h = ap (λ c. cond c (a ∷ filter f (range_with_len (a + 1) n)) (filter f (range_with_len (a + 1) n))) (h a (omega arith)) ∙ filter-past f (a + 1) n (λ k le. h k (omega (arith, le)))
+
+filter-wider : (f : ℕ → Bool) (a m n : ℕ) → m ≤ n → ((k : ℕ) → a + m ≤ k → f k ≡ false) → filter f (range_with_len a n) ≡ filter f (range_with_len a m)
+filter-wider f a zero n le h = filter-past f a n (λ k b. h k (omega (arith, b)))
+filter-wider f a (suc m) zero le h = absurd (omega (arith, le))
+filter-wider f a (suc m) (suc n) le h = ap (λ zs. cond (f a) (a ∷ zs) zs) (filter-wider f (a + 1) m n (omega (arith, le)) (λ k b. h k (omega (arith, b))))
+
+-- two ranges, where a number behind either doesn't pass
+filter-long : (f : ℕ → Bool) (m n : ℕ) → ((k : ℕ) → m ≤ k → f k ≡ false) → ((k : ℕ) → n ≤ k → f k ≡ false) → filter f (numbers_to m) ≡ filter f (numbers_to n)
+filter-long f m n h g =
+    elim (cases_lt m n) [
+      | inl less ↦ sym (filter-wider f 0 m n (omega (arith, less)) (λ k late. h k (omega (arith, late))))
+      | inr past ↦ filter-wider f 0 n m past (λ k late. g k (omega (arith, late)))
+    ]
 
 -- ---- batches
 
@@ -132,7 +167,7 @@ count-same lo hi e E some low high xs ys agree =
     let under = filter-under (in_slice lo hi) f (λ x h. in-epoch lo hi e E x.time some low high h) in
     count-is f xs ∙ ap (λ (zs : List Tuple). length zs) (sym (under xs) ∙ ap (filter f) agree ∙ under ys) ∙ sym (count-is f ys)
 
-counts-same : (lo hi e E : ℕ) → 1 ≤ E → lo ≤ e * E → (e + 1) * E ≤ hi → (xss yss : List (List Tuple)) → length yss ≡ length xss → SourcesAgree lo hi xss yss
+pub counts-same : (lo hi e E : ℕ) → 1 ≤ E → lo ≤ e * E → (e + 1) * E ≤ hi → (xss yss : List (List Tuple)) → length yss ≡ length xss → SourcesAgree lo hi xss yss
     → map (count_by (λ x. eqb (x.time / E) e)) xss ≡ map (count_by (λ x. eqb (x.time / E) e)) yss
 counts-same lo hi e E some low high [] [] count agree = refl
 counts-same lo hi e E some low high [] (ys ∷ yss) count agree = absurd (omega (arith, count))
@@ -157,6 +192,18 @@ module _ (r : Replay) (part : List (List Tuple)) (a b w : ℕ) (p : DropPoint) (
           let counts = counts-same (epoch_before r (batch_begin p a)) b e E agree.1 back (omega (arith, whole, end, high)) r.sources part agree.2 agree.4 in
           ap (λ cs. level_for (setting_of r.network r.entries) (λ z. cs) (suc e) w) counts
 
+  -- whether a batch of the slice is in the record
+  fate-same : (k : ℕ) → a / p.length ≤ k → k * p.length < b
+      → (is_dropped r w p k && is_touched p (full_at r p.at) k) ≡ (is_dropped (with_sources r part) w p k && is_touched p (full_at (with_sources r part) p.at) k)
+  fate-same k first high =
+      let last : k ≤ (b - 1) / p.length = le-div k (b - 1) p.length agree.0 (omega (arith, high)) in
+      let from = times_up (a / p.length) k p.length first in
+      let to = times_up (k + 1) ((b - 1) / p.length + 1) p.length (omega (arith, last)) in
+      ap (λ l. ltb (draw_of r.seed w k) l && is_touched p (full_at r p.at) k) (level-same k first high)
+      ∙ ap (λ c. is_dropped (with_sources r part) w p k && c)
+      (touched-same p k (full_at r p.at) (full_at (with_sources r part) p.at)
+      (narrower (batch_begin p a) (kept_until p b) (k * p.length) (until_of p k) from (omega (arith, to)) (full_at r p.at) (full_at (with_sources r part) p.at) agree.3))
+
   dropped-same : (x : Tuple) → in_slice a b x ≡ true → contains_number (record_of r w p) (x.time / p.length) ≡ contains_number (record_of (with_sources r part) w p) (x.time / p.length)
   dropped-same x here =
       let k = x.time / p.length in
@@ -165,16 +212,7 @@ module _ (r : Replay) (part : List (List Tuple)) (a b w : ℕ) (p : DropPoint) (
       let high = less x.time b parts.1 in
       let begin : k * p.length ≤ x.time = div-mul-le_self x.time p.length in
       let first : a / p.length ≤ k = le-div (a / p.length) x.time p.length agree.0 (let h = div-mul-le_self a p.length in omega (arith, h, low)) in
-      let last : k ≤ b / p.length = le-div k b p.length agree.0 (omega (arith, begin, high)) in
-      let from = times_up (a / p.length) k p.length first in
-      let to = times_up (k + 1) (b / p.length + 1) p.length (omega (arith, last)) in
-      let level = level-same k first (omega (arith, begin, high)) in
-      in-record r w p agree.0 k
-      ∙ ap (λ l. ltb (draw_of r.seed w k) l && is_touched p (full_at r p.at) k) level
-      ∙ ap (λ c. is_dropped (with_sources r part) w p k && c)
-      (touched-same p k (full_at r p.at) (full_at (with_sources r part) p.at)
-      (narrower (batch_begin p a) (until_of p (b / p.length)) (k * p.length) (until_of p k) from (omega (arith, to)) (full_at r p.at) (full_at (with_sources r part) p.at) agree.3))
-      ∙ sym (in-record (with_sources r part) w p agree.0 k)
+      in-record r w p agree.0 k ∙ fate-same k first (omega (arith, begin, high)) ∙ sym (in-record (with_sources r part) w p agree.0 k)
     where
       less : (t b : ℕ) → ltb t b ≡ true → t < b
       less t b h = grind (arith, nat_tests)
@@ -186,6 +224,86 @@ module _ (r : Replay) (part : List (List Tuple)) (a b w : ℕ) (p : DropPoint) (
       filter-swap (in_slice a b) q xs ∙ ap (filter q) e
       ∙ filter-same q s (slice a b ys) (all_weaker (λ x. in_slice a b x ≡ true) (λ x. q x ≡ s x) (λ x here. ap not (dropped-same x here)) (slice a b ys) (all-pass (in_slice a b) ys))
       ∙ sym (filter-swap (in_slice a b) s ys)
+
+  -- ---- the record itself
+
+  abbrev begins : ℕ → Bool
+  begins k = leb a (k * p.length) && ltb (k * p.length) b
+
+  from-begin : (k : ℕ) → begins k ≡ true → (a / p.length ≤ k) × (k * p.length < b)
+  from-begin k h =
+      let parts = and_true (leb a (k * p.length)) (ltb (k * p.length) b) h in
+      (low (leb_from a (k * p.length) parts.0), less (k * p.length) b parts.1)
+    where
+      less : (t b : ℕ) → ltb t b ≡ true → t < b
+      less t b h = grind (arith, nat_tests)
+
+      once : (k e : ℕ) → (k + 1) * e ≡ k * e + e
+      once k e = grind arith
+
+      low : a ≤ k * p.length → a / p.length ≤ k
+      low h =
+          elim (cases_lt k (a / p.length)) [
+            | inl more ↦ (
+                let up = times_up (k + 1) (a / p.length) p.length (omega (arith, more)) in
+                let whole = div-mul-le_self a p.length in
+                let e = once k p.length in
+                let some = agree.0 in
+                absurd (omega (arith, up, whole, e, some, h)))
+            | inr past ↦ past
+          ]
+
+  abbrev fate : Replay → ℕ → Bool
+  fate v k = begins k && (is_dropped v w p k && is_touched p (full_at v p.at) k)
+
+  fates-same : (k : ℕ) → fate r k ≡ fate (with_sources r part) k
+  fates-same k = by (begins k) refl
+    where
+      by : (c : Bool) → begins k ≡ c → (c && (is_dropped r w p k && is_touched p (full_at r p.at) k)) ≡ (c && (is_dropped (with_sources r part) w p k && is_touched p (full_at (with_sources r part) p.at) k))
+      by true e = let h = from-begin k e in fate-same k h.0 h.1
+      by false e = refl
+
+  abbrev count_of : Replay → ℕ
+  count_of v = last_of (full_at v p.at) / p.length + 1
+
+  -- no batch behind the last tuple is touched
+  fate-late : (v : Replay) (k : ℕ) → count_of v ≤ k → fate v k ≡ false
+  fate-late v k late = by (is_touched p (full_at v p.at) k) refl
+    where
+      none : (c d : Bool) → (c && (d && false)) ≡ false
+      none true true = refl
+      none true false = refl
+      none false d = refl
+
+      by : (c : Bool) → is_touched p (full_at v p.at) k ≡ c → (begins k && (is_dropped v w p k && c)) ≡ false
+      by true e =
+          let low = any-early (k * p.length) (until_of p k) (full_at v p.at) e in
+          let few = le-div k (last_of (full_at v p.at)) p.length agree.0 low in
+          absurd (omega (arith, few, late))
+      by false e = none (begins k) (is_dropped v w p k)
+
+  record-is : (v : Replay) → filter begins (record_of v w p) ≡ filter (fate v) (numbers_to (count_of v))
+  record-is v =
+      ap (filter begins) (filter-filter (is_dropped v w p) (is_touched p (full_at v p.at)) (numbers_to (count_of v)))
+      ∙ filter-filter begins (λ k. is_dropped v w p k && is_touched p (full_at v p.at) k) (numbers_to (count_of v))
+
+  records-same : filter begins (record_of r w p) ≡ filter begins (record_of (with_sources r part) w p)
+  records-same =
+      let v = with_sources r part in
+      record-is r ∙ filter-each (fate r) (fate v) fates-same (numbers_to (count_of r))
+      ∙ filter-long (fate v) (count_of r) (count_of v) (λ k late. sym (fates-same k) ∙ fate-late r k late) (fate-late v)
+      ∙ sym (record-is v)
+
+  pub drops-same : drops_in r w p a b ≡ drops_in (with_sources r part) w p a b
+  drops-same =
+      let v = with_sources r part in
+      map-same (λ k. begins k ≡ true) (λ k. drop_line w k (batch_level r (k * p.length / r.network.epoch) w)) (λ k. drop_line w k (batch_level v (k * p.length / r.network.epoch) w))
+      (λ k h. (let at = from-begin k h in ap (λ l. drop_line w k l) (level-same k at.0 at.1)))
+      (filter begins (record_of r w p)) (all-pass begins (record_of r w p))
+      ∙ ap (map (λ k. drop_line w k (batch_level v (k * p.length / r.network.epoch) w))) records-same
+
+pub drop-same : (r : Replay) → SlicesDropTheSame r
+drop-same r part w p a b agree = drops-same r part a b w p agree
 
 pub show-same : (r : Replay) → SlicesShowTheSame r
 show-same r part o a b batches agree = by (drop_above_output r.network o) batches

@@ -13,5 +13,6 @@ pub mod WholeLemmas
 pub mod FollowLemmas
 pub mod BoundLemmas
 pub mod DropLemmas
+pub mod PlanLemmas
 pub mod ShowLemmas
 mod SliceRows

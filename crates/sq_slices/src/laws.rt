@@ -1,8 +1,9 @@
 // Laws, each the contract of a function that does nothing.
 ghost use Rattle.std.specs.Prelude.{Option, ℕ, ◌<◌, ◌^◌};
 ghost use Rattle.sq_net.specs.SoundNetworks.{IsSound};
+ghost use Rattle.sq_points.specs.Limits.{KeepsDropLimits};
 ghost use Rattle.sq_model.specs.Shedding.{Replay};
-ghost use Rattle.sq_slices.specs.Drops.{SlicesShowTheRun, SlicesShowTheSame};
+ghost use Rattle.sq_slices.specs.Drops.{SlicesDropTheSame, SlicesPlanTheSame, SlicesShowTheRun, SlicesShowTheSame};
 ghost use Rattle.sq_slices.specs.Laws.{SlicesAnswerSlices, SlicesMakeThemAll, SlicesMakeTheRun, SlicesMakeTheWhole, UncutAreNamed};
 ghost use Rattle.sq_slices.specs.Reaches.{FollowsReaches, reach_at, reaches_of};
 ghost use Rattle.sq_slices.specs.declared.Reach.{Reach};
@@ -66,7 +67,18 @@ pub fn slices_show_the_same()
     ensures { (r : Replay) → SlicesShowTheSame r }
 {}
 
-/// The same by how far the output and the drop above it reach.
+/// Where it agrees so for a drop, it drops the same of the batches that begin in the slice, at the same levels.
+pub fn slices_drop_the_same()
+    ensures { (r : Replay) → SlicesDropTheSame r }
+{}
+
+/// Where a part agrees with the sources from the epoch before a slice on, it shows the same plans for the epochs that begin in the slice,
+/// as far as there are tuples in or behind them.
+pub fn slices_plan_the_same()
+    ensures { (r : Replay) → SlicesPlanTheSame r }
+{}
+
+/// What a part shows and what it drops, by how far the outputs and the drops reach.
 pub fn slices_show_the_run()
-    ensures { (r : Replay) (delay : Option ℕ) (reaches : ℕ → Option Reach) → IsSound r.network → FollowsReaches r.network delay reaches → SlicesShowTheRun r delay reaches }
+    ensures { (r : Replay) (delay : Option ℕ) (reaches : ℕ → Option Reach) → IsSound r.network → KeepsDropLimits r.network → FollowsReaches r.network delay reaches → SlicesShowTheRun r delay reaches }
 {}

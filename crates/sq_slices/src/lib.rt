@@ -4,8 +4,9 @@
 //! The contracts promise how far a slice of each stream reaches into the sources, from the network alone, and which box is
 //! the reason where there is none; that a part which has the sources so far answers its slice as the whole does; that slices,
 //! one behind the other, are the whole answer, tuple by tuple; that behind BSorts this is so where each slice by itself is in
-//! time; and that a slice shows the same where batches are dropped. Below stand the full streams of `sq_model` and, for lists
-//! and the order of boxes, `sq_shard`. Slices, cuts and reaches are this project's own.
+//! time; and that a slice has the same plans, drops the same batches and shows the same of what is left. Below stand the full
+//! streams and the batches of `sq_model` and, for lists and the order of boxes, `sq_shard`. Slices, cuts and reaches are this
+//! project's own.
 #![tactic(auto)]
 
 mod boxes;
@@ -14,8 +15,9 @@ mod laws;
 mod rounds;
 
 pub use laws::{
-    reaches_follow, slices_answer_slices, slices_make_the_run, slices_make_the_whole,
-    slices_make_them_all, slices_show_the_run, slices_show_the_same, uncut_are_named,
+    reaches_follow, slices_answer_slices, slices_drop_the_same, slices_make_the_run,
+    slices_make_the_whole, slices_make_them_all, slices_plan_the_same, slices_show_the_run,
+    slices_show_the_same, uncut_are_named,
 };
 pub use rounds::{first_uncut, output_reaches, outputs_reach, reaches, run_reach};
 
