@@ -6,7 +6,7 @@ use Rattle.sq_value.specs.Values.{Columns, names_of}
 use Rattle.sq_net.specs.declared.Network.{Network}
 use Rattle.sq_net.specs.declared.Output.{Output}
 use Rattle.sq_net.specs.Streams.{columns_of_stream}
-use Rattle.sq_teller.specs.Boxes.{box_line}
+use Rattle.sq_teller.specs.Boxes.{named_box}
 use Rattle.sq_shard.specs.declared.Cut.{Cut}
 use Rattle.sq_shard.specs.declared.Cut.TheVariants.{Whole, By}
 use Rattle.sq_shard.specs.Keys.{cut_at, cuts_of, is_known_cut, loses_key}
@@ -42,7 +42,7 @@ some_lost cuts streams = list_any (λ s. not (is_known_cut (cut_at cuts s))) str
 
 -- the first box that loses the key
 abbrev pub loss_line : Network → Bool → List Cut → List ℕ
-loss_line n on_time cuts = box_line (codes "@loses") n (find (loses_key n on_time (cut_at cuts)) (numbers_to (length n.boxes)))
+loss_line n on_time cuts = named_box (codes "@loses") n (find (loses_key n on_time (cut_at cuts)) (numbers_to (length n.boxes)))
 
 abbrev pub text_by : Network → Bool → List Cut → List ℕ
 text_by n on_time cuts =

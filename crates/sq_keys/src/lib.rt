@@ -10,7 +10,7 @@ ghost use Rattle.std.specs.Prelude.{◌≡◌, ◌≢◌, ◌≤◌, map};
 ghost use Rattle.std.specs.String.{string_bytes};
 ghost use Rattle.sq_net.specs.declared.NetErr.TheVariants as net;
 ghost use Rattle.sq_outside.specs.Sinks.{AppendsSuch};
-ghost use Rattle.sq_teller.specs.Ends.{TellsStatus};
+ghost use Rattle.sq_teller.specs.Ends.{TellsEnding};
 ghost use Rattle.sq_keys.specs.Ends.{KeysEnds};
 ghost use Rattle.sq_keys.specs.Words.{asked_in};
 
@@ -76,7 +76,7 @@ pub fn run_keys<F: Folder, S: Sink, E: Sink>(
       sink_now = S.faults out.new;
     })
         result }
-    ensures tells { AppendsSuch (E.written err.old) (E.written err.new) (TellsStatus Program.Keys (E.faults err.old) (E.faults err.new) result) }
+    ensures tells { AppendsSuch (E.written err.old) (E.written err.new) (TellsEnding Program.Keys (E.faults err.old) (E.faults err.new) result) }
     ensures no_memory { result ≢ Status.BadNetwork net.Memory }
     ensures same_files { F.files folder.new ≡ F.files folder.old }
     ensures later { (F.faults folder.old ≤ F.faults folder.new) × (F.taken folder.old ≤ F.taken folder.new)

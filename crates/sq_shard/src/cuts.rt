@@ -55,7 +55,8 @@ fn input_width(n: &Network, inputs: &[u32], input: usize) -> u32
     }
 }
 
-pub(crate) fn inputs_of(w: &Wiring, at: u32) -> &[u32]
+/// The streams that a box takes, or none where there is no box.
+pub fn inputs_of(w: &Wiring, at: u32) -> &[u32]
     ensures { result.now ≡ inputs_of w.now at }
 {
     match w.boxes.as_slice().get(at as usize) {

@@ -13,7 +13,7 @@ mod cuts;
 mod laws;
 mod losses;
 
-pub use cuts::key_columns;
+pub use cuts::{inputs_of, key_columns};
 pub use laws::{cuts_follow, losses_are_named, parts_answer_parts, parts_make_the_whole};
 pub use losses::first_loss;
 use sq_value::ListOf;

@@ -6,11 +6,11 @@ use Rattle.sq_reader.specs.Networks.{network_in}
 use Rattle.sq_teller.specs.declared.Status.TheVariants as status
 use Rattle.sq_teller.specs.Replies.{Reply, Says, Refuses}
 use Rattle.sq_slicer.specs.declared.Asked.{Asked}
-use Rattle.sq_slicer.specs.Lines.{is_lost, slices_text}
+use Rattle.sq_slicer.specs.Lines.{has_no_slices, slices_text}
 
-abbrev pub by_network : Asked → Result Network NetErr → Reply
-by_network a (Ok n) = Says (slices_text n a.delay) (is_lost n a.delay)
-by_network a (Err e) = Refuses (status.BadNetwork e)
+abbrev pub slices_by : Asked → Result Network NetErr → Reply
+slices_by a (Ok n) = Says (slices_text n a.delay) (has_no_slices n a.delay)
+slices_by a (Err e) = Refuses (status.BadNetwork e)
 
-abbrev pub reply_of : Asked → List ℕ → Reply
-reply_of a bytes = by_network a (network_in bytes)
+abbrev pub slices_reply : Asked → List ℕ → Reply
+slices_reply a bytes = slices_by a (network_in bytes)

@@ -17,7 +17,7 @@ abbrev pub asked_with : Word → Word → Word → Option Asked
 asked_with option ticks net = if same_bytes option (codes "--delay") then asked_delayed (read_number 13 (2 ^ 40) ticks) net else None
 
 -- `[--delay TICKS] NET`
-abbrev pub asked_in : List Word → Option Asked
-asked_in (net ∷ []) = asked_of None net
-asked_in (option ∷ ticks ∷ net ∷ []) = asked_with option ticks net
-asked_in ws = None
+abbrev pub slices_asked : List Word → Option Asked
+slices_asked (net ∷ []) = asked_of None net
+slices_asked (option ∷ ticks ∷ net ∷ []) = asked_with option ticks net
+slices_asked ws = None

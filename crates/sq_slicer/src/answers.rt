@@ -1,7 +1,7 @@
 // What is answered to words, by the bytes of the network file.
 ghost use Rattle.std.specs.Prelude.{◌<◌, ◌^◌};
 ghost use Rattle.std.specs.Option.{IfSome};
-ghost use Rattle.sq_slicer.specs.Answers.{reply_of};
+ghost use Rattle.sq_slicer.specs.Answers.{slices_reply};
 
 use crate::Asked;
 use crate::lines::slices_text;
@@ -14,7 +14,7 @@ use std::alloc::Global;
 impl Inquiry for Asked {
     ghost file = { λ a. a.net };
 
-    ghost reply = { reply_of };
+    ghost reply = { slices_reply };
 
     ghost can_answer = { λ a. IfSome a.delay (λ d. d < 2 ^ 40) };
 

@@ -10,9 +10,9 @@ ghost use Rattle.std.specs.Prelude.{◌≡◌, ◌≢◌, ◌≤◌, map};
 ghost use Rattle.std.specs.String.{string_bytes};
 ghost use Rattle.sq_net.specs.declared.NetErr.TheVariants as net;
 ghost use Rattle.sq_outside.specs.Sinks.{AppendsSuch};
-ghost use Rattle.sq_teller.specs.Ends.{TellsStatus};
+ghost use Rattle.sq_teller.specs.Ends.{TellsEnding};
 ghost use Rattle.sq_slicer.specs.Ends.{SlicesEnd};
-ghost use Rattle.sq_slicer.specs.Words.{asked_in};
+ghost use Rattle.sq_slicer.specs.Words.{slices_asked};
 
 mod answers;
 mod lines;
@@ -44,7 +44,7 @@ pub fn run_slices<F: Folder, S: Sink, E: Sink>(
     err: &mut E,
 ) -> Status
     // By the bytes that the folder gave: the one read of this call, of the file that the words name.
-    ensures ends { SlicesEnd (asked_in (map string_bytes words.now.items)) (record {
+    ensures ends { SlicesEnd (slices_asked (map string_bytes words.now.items)) (record {
       told = F.files folder.old;
       folder_before = F.faults folder.old;
       folder_now = F.faults folder.new;
@@ -58,7 +58,7 @@ pub fn run_slices<F: Folder, S: Sink, E: Sink>(
       sink_now = S.faults out.new;
     })
         result }
-    ensures tells { AppendsSuch (E.written err.old) (E.written err.new) (TellsStatus Program.Slices (E.faults err.old) (E.faults err.new) result) }
+    ensures tells { AppendsSuch (E.written err.old) (E.written err.new) (TellsEnding Program.Slices (E.faults err.old) (E.faults err.new) result) }
     ensures no_memory { result ≢ Status.BadNetwork net.Memory }
     ensures same_files { F.files folder.new ≡ F.files folder.old }
     ensures later { (F.faults folder.old ≤ F.faults folder.new) × (F.taken folder.old ≤ F.taken folder.new)

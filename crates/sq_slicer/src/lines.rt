@@ -3,7 +3,7 @@ ghost use Rattle.std.specs.Prelude.{◌≡◌, ◌<◌, ◌^◌, ◌++◌, IfOk,
 ghost use Rattle.std.specs.Option.{IfSome};
 ghost use Rattle.std.specs.String.{string_bytes};
 ghost use Rattle.sq_net.specs.SoundNetworks.{IsSound};
-ghost use Rattle.sq_slicer.specs.Lines.{end_line, is_lost, output_line, output_lines, reach_text, shared_reach, slices_text};
+ghost use Rattle.sq_slicer.specs.Lines.{run_line, has_no_slices, reach_line, reach_lines, reach_text, shared_reach, slices_text};
 
 use sq_net::{Network, Output};
 use sq_slices::{Reach, first_uncut, output_reaches, outputs_reach, run_reach};
@@ -34,7 +34,7 @@ fn put_output(
     reach: Option<Reach>,
     text: &mut Vec<u8>,
 ) -> Result<(), AllocError>
-    ensures { OnOk result (text.new.items ≡ text.old.items ++ output_line output.now reach) }
+    ensures { OnOk result (text.new.items ≡ text.old.items ++ reach_line output.now reach) }
 {
     text.extend_from_slice(output.name.as_str().as_bytes())?;
     match reach {
@@ -53,7 +53,7 @@ fn put_outputs(
     reaches: &[Option<Reach>],
     text: &mut Vec<u8>,
 ) -> Result<(), AllocError>
-    ensures { OnOk result (text.new.items ≡ text.old.items ++ output_lines outputs.now reaches.now) }
+    ensures { OnOk result (text.new.items ≡ text.old.items ++ reach_lines outputs.now reaches.now) }
 {
     for (i, output) in outputs.iter().enumerate() {
         match reaches.get(i) {
@@ -89,7 +89,7 @@ fn put_end(
 ) -> Result<(), AllocError>
     requires sound { IsSound n.now }
     requires delay { IfSome delay (λ d. d < 2 ^ 40) }
-    ensures { OnOk result (text.new.items ≡ text.old.items ++ end_line n.now delay shared) }
+    ensures { OnOk result (text.new.items ≡ text.old.items ++ run_line n.now delay shared) }
 {
     match shared {
         None => {
@@ -113,7 +113,7 @@ pub fn slices_text(
     requires sound { IsSound n.now }
     requires delay { IfSome delay (λ d. d < 2 ^ 40) }
     ensures text { IfOk result (λ r. r.0.items ≡ slices_text n.now delay) }
-    ensures lost { IfOk result (λ r. r.1 ≡ is_lost n.now delay) }
+    ensures lost { IfOk result (λ r. r.1 ≡ has_no_slices n.now delay) }
 {
     let reaches = output_reaches(alloc, n, delay)?;
     let shared = shared_reach(alloc, n, delay)?;

@@ -2,7 +2,7 @@
 ghost use Rattle.std.specs.Prelude.{◌≡◌, ◌<◌, ◌^◌, Err, IfOk, None, Some, map};
 ghost use Rattle.std.specs.Option.{IfSome};
 ghost use Rattle.std.specs.String.{string_bytes};
-ghost use Rattle.sq_slicer.specs.Words.{asked_in, asked_of, asked_with};
+ghost use Rattle.sq_slicer.specs.Words.{slices_asked, asked_of, asked_with};
 
 use crate::Asked;
 use sq_teller::{WordsErr, may_name};
@@ -41,9 +41,9 @@ fn asked_with(alloc: Global, option: &str, ticks: &str, net: &str) -> Result<Ask
 /// What words ask for: `[--delay TICKS] NET`, where TICKS is 1 to 13 digits of a number below 2^40. The network's name isn't empty
 /// and doesn't begin with a dash.
 pub fn read_words(alloc: Global, words: &Vec<String>) -> Result<Asked, WordsErr>
-    ensures asked { IfOk result (λ a. asked_in (map string_bytes words.now.items) ≡ Some a) }
+    ensures asked { IfOk result (λ a. slices_asked (map string_bytes words.now.items) ≡ Some a) }
     ensures low { IfOk result (λ a. IfSome a.delay (λ d. d < 2 ^ 40)) }
-    ensures usage { result ≡ Err WordsErr.Usage → asked_in (map string_bytes words.now.items) ≡ None }
+    ensures usage { result ≡ Err WordsErr.Usage → slices_asked (map string_bytes words.now.items) ≡ None }
 {
     match words.as_slice() {
         [net] => asked_of(alloc, None, net.as_str()),

@@ -26,7 +26,7 @@ use Rattle.sq_slices.specs.declared.Grid.{Grid}
 use Rattle.sq_slices.specs.declared.Reach.{Reach}
 use Rattle.sq_slices.specs.Grids.{IsGrid, gap, pad, moved, ahead_from}
 use Rattle.sq_slices.specs.Bounds.{IsLow, AreLow}
-use Rattle.sq_slices.specs.Reaches.{own_reach, earlier, later, beside, both, starts, windowed, both_if, union_reach, reach_at, box_reach, box_reach_at, reach_given, reach_of, reach_within, reaches_of, output_reaches_of}
+use Rattle.sq_slices.specs.Reaches.{own_reach, earlier_reach, later_reach, beside_reach, both_reaches, starts, windowed, both_if, union_reach, reach_numbered, box_reach, box_reach_at, reach_given, reach_of, reach_within, reaches_of, output_reaches_of}
 use Rattle.sq_slices.proofs.GridLemmas.{gap-low}
 
 pad-low : (g h : Grid) → IsGrid h → pad g h < h.step
@@ -55,7 +55,7 @@ pub more-low-if : (m k : ℕ) (o : Option Reach) → m ≤ k → IfSome o (IsLow
 more-low-if m k None le low = tt
 more-low-if m k (Some r) le low = more-low m k r le low
 
-pub earlier-low : (m before : ℕ) (r : Reach) → IsLow m r → IsLow (m + before) (earlier before r)
+pub earlier-low : (m before : ℕ) (r : Reach) → IsLow m r → IsLow (m + before) (earlier_reach before r)
 earlier-low m before r low = record {
   grid = low.grid;
   step = low.step;
@@ -63,7 +63,7 @@ earlier-low m before r low = record {
   ahead = (let h = low.ahead in omega (arith, h));
 }
 
-pub later-low : (m more : ℕ) (r : Reach) → IsLow m r → IsLow (m + (more + 2 ^ 32)) (later more r)
+pub later-low : (m more : ℕ) (r : Reach) → IsLow m r → IsLow (m + (more + 2 ^ 32)) (later_reach more r)
 later-low m more r low = record {
   grid = low.grid;
   step = low.step;
@@ -71,7 +71,7 @@ later-low m more r low = record {
   ahead = (let h = ahead-low r.cuts more m r low in omega (arith, h));
 }
 
-beside-low : (m : ℕ) (r q : Reach) → IsLow m r → IsLow m q → IsLow (m + 2 ^ 32) (beside r q)
+beside-low : (m : ℕ) (r q : Reach) → IsLow m r → IsLow m q → IsLow (m + 2 ^ 32) (beside_reach r q)
 beside-low m r q low more = record {
   grid = low.grid;
   step = low.step;
@@ -79,10 +79,10 @@ beside-low m r q low more = record {
   ahead = (let a = low.ahead in let b = ahead-low r.cuts 0 m q more in omega (arith, a, b));
 }
 
-pub both-low : (m : ℕ) (r q : Reach) → IsLow m r → IsLow m q → IsLow (m + 2 ^ 32) (both r q)
+pub both-low : (m : ℕ) (r q : Reach) → IsLow m r → IsLow m q → IsLow (m + 2 ^ 32) (both_reaches r q)
 both-low m r q low more = by (leb q.cuts.step r.cuts.step)
   where
-    by : (c : Bool) → IsLow (m + 2 ^ 32) (cond c (beside r q) (beside q r))
+    by : (c : Bool) → IsLow (m + 2 ^ 32) (cond c (beside_reach r q) (beside_reach q r))
     by true = beside-low m r q low more
     by false = beside-low m q r more low
 
@@ -116,7 +116,7 @@ windowed-low m w r window low = record {
   ahead = (let a = ahead-low (starts w) (w.size - w.advance) m r low in let b = window.bounded in omega (arith, a, b));
 }
 
-pub at-low : (m : ℕ) (rs : List (Option Reach)) → AllByRecursion (λ o. IfSome o (IsLow m)) rs → (i : ℕ) → IfSome (reach_at rs i) (IsLow m)
+pub at-low : (m : ℕ) (rs : List (Option Reach)) → AllByRecursion (λ o. IfSome o (IsLow m)) rs → (i : ℕ) → IfSome (reach_numbered rs i) (IsLow m)
 at-low m [] all i = tt
 at-low m (r ∷ rs) all zero = all.0
 at-low m (r ∷ rs) all (suc i) = at-low m rs all.1 i
@@ -138,25 +138,25 @@ union-rest k rs few low =
 
 box-low : (m : ℕ) (delay : Option ℕ) (b : Body) (rs : List (Option Reach)) → IfSome delay (λ d. d < 2 ^ 40) → HasWindow b → body_within b ≡ true → length rs ≤ 8
     → AllByRecursion (λ o. IfSome o (IsLow m)) rs → IfSome (box_reach delay b rs) (IsLow (m + 2 ^ 41))
-box-low m delay (Filter preds) rs small window within few all = more-low-if m (m + 2 ^ 41) (reach_at rs 0) (omega arith) (at-low m rs all 0)
-box-low m delay (Map exprs) rs small window within few all = more-low-if m (m + 2 ^ 41) (reach_at rs 0) (omega arith) (at-low m rs all 0)
+box-low m delay (Filter preds) rs small window within few all = more-low-if m (m + 2 ^ 41) (reach_numbered rs 0) (omega arith) (at-low m rs all 0)
+box-low m delay (Map exprs) rs small window within few all = more-low-if m (m + 2 ^ 41) (reach_numbered rs 0) (omega arith) (at-low m rs all 0)
 box-low m delay Union rs small window within few all = more-low-if (m + length rs * 2 ^ 32) (m + 2 ^ 41) (union_reach rs) (omega (arith, few)) (union-low m rs all)
 box-low m None (BSort by slack) rs small window within few all = tt
 box-low m (Some d) (BSort by slack) rs small window within few all =
-    mapped-low m (m + 2 ^ 41) (later d) (reach_at rs 0) (λ r low. more-low (m + (d + 2 ^ 32)) (m + 2 ^ 41) (later d r) (omega (arith, small)) (later-low m d r low)) (at-low m rs all 0)
+    mapped-low m (m + 2 ^ 41) (later_reach d) (reach_numbered rs 0) (λ r low. more-low (m + (d + 2 ^ 32)) (m + 2 ^ 41) (later_reach d r) (omega (arith, small)) (later-low m d r low)) (at-low m rs all 0)
 box-low m delay (Aggregate funcs group w) rs small window within few all =
-    mapped-low m (m + 2 ^ 41) (windowed w) (reach_at rs 0) (λ r low. more-low (m + (2 ^ 32 + 2 ^ 32)) (m + 2 ^ 41) (windowed w r) (omega arith) (windowed-low m w r window low)) (at-low m rs all 0)
+    mapped-low m (m + 2 ^ 41) (windowed w) (reach_numbered rs 0) (λ r low. more-low (m + (2 ^ 32 + 2 ^ 32)) (m + 2 ^ 41) (windowed w r) (omega arith) (windowed-low m w r window low)) (at-low m rs all 0)
 box-low m delay (Join size on) rs small window within few all =
     let low = leb_from size (2 ^ 32) within in
-    mapped-low (m + 2 ^ 32) (m + 2 ^ 41) (earlier size) (both_if (reach_at rs 0) (reach_at rs 1))
-    (λ r h. more-low (m + 2 ^ 32 + size) (m + 2 ^ 41) (earlier size r) (omega (arith, low)) (earlier-low (m + 2 ^ 32) size r h))
-    (both-low-if m (reach_at rs 0) (reach_at rs 1) (at-low m rs all 0) (at-low m rs all 1))
+    mapped-low (m + 2 ^ 32) (m + 2 ^ 41) (earlier_reach size) (both_if (reach_numbered rs 0) (reach_numbered rs 1))
+    (λ r h. more-low (m + 2 ^ 32 + size) (m + 2 ^ 41) (earlier_reach size r) (omega (arith, low)) (earlier-low (m + 2 ^ 32) size r h))
+    (both-low-if m (reach_numbered rs 0) (reach_numbered rs 1) (at-low m rs all 0) (at-low m rs all 1))
 box-low m delay (Resample size funcs) rs small window within few all =
     let low = leb_from size (2 ^ 32) (and_true (leb size (2 ^ 32)) (is_between 1 16 (length funcs)) within).0 in
-    more-low-if (m + 2 ^ 34 + 2 ^ 32) (m + 2 ^ 41) (both_if (reach_at rs 0) (option_map (λ r. earlier size (later size r)) (reach_at rs 1))) (omega arith)
-    (both-low-if (m + 2 ^ 34) (reach_at rs 0) (option_map (λ r. earlier size (later size r)) (reach_at rs 1)) (more-low-if m (m + 2 ^ 34) (reach_at rs 0) (omega arith) (at-low m rs all 0))
-    (mapped-low m (m + 2 ^ 34) (λ r. earlier size (later size r)) (reach_at rs 1)
-    (λ r h. more-low (m + (size + 2 ^ 32) + size) (m + 2 ^ 34) (earlier size (later size r)) (omega (arith, low)) (earlier-low (m + (size + 2 ^ 32)) size (later size r) (later-low m size r h)))
+    more-low-if (m + 2 ^ 34 + 2 ^ 32) (m + 2 ^ 41) (both_if (reach_numbered rs 0) (option_map (λ r. earlier_reach size (later_reach size r)) (reach_numbered rs 1))) (omega arith)
+    (both-low-if (m + 2 ^ 34) (reach_numbered rs 0) (option_map (λ r. earlier_reach size (later_reach size r)) (reach_numbered rs 1)) (more-low-if m (m + 2 ^ 34) (reach_numbered rs 0) (omega arith) (at-low m rs all 0))
+    (mapped-low m (m + 2 ^ 34) (λ r. earlier_reach size (later_reach size r)) (reach_numbered rs 1)
+    (λ r h. more-low (m + (size + 2 ^ 32) + size) (m + 2 ^ 34) (earlier_reach size (later_reach size r)) (omega (arith, low)) (earlier-low (m + (size + 2 ^ 32)) size (later_reach size r) (later-low m size r h)))
     (at-low m rs all 1)))
 
 -- ---- networks
@@ -231,7 +231,7 @@ outputs_within n h = (and_true _ _ (and_true _ _ (and_true _ _ (and_true _ _ (an
 
 pub outputs-few : (n : Network) → IsSound n → (delay : Option ℕ) → length (output_reaches_of n delay) ≤ 2 ^ 20
 outputs-few n sound delay =
-    let count = length-mapped (reach_at (reaches_of n delay)) n.wires.outputs in
+    let count = length-mapped (reach_numbered (reaches_of n delay)) n.wires.outputs in
     let few = at_most 1 32 (length n.outputs) (outputs_within n sound.within) in
     let same = sound.agrees.outputs in
     omega (arith, count, few, same)
@@ -239,4 +239,4 @@ outputs-few n sound delay =
 pub outputs-low : (n : Network) → IsSound n → (delay : Option ℕ) → IfSome delay (λ d. d < 2 ^ 40) → AreLow (2 ^ 59) (output_reaches_of n delay)
 outputs-low n sound delay small =
     at-low (2 ^ 59) (output_reaches_of n delay)
-    (all-mapped (2 ^ 59) (reach_at (reaches_of n delay)) (all-low n sound delay small (numbers_to (length (producers_of n.wires)))) n.wires.outputs)
+    (all-mapped (2 ^ 59) (reach_numbered (reaches_of n delay)) (all-low n sound delay small (numbers_to (length (producers_of n.wires)))) n.wires.outputs)

@@ -29,7 +29,7 @@ use Rattle.sq_shard.proofs.Lists.{filter-swap, filter-flat_map}
 use Rattle.sq_shard.proofs.Parts.{GivesAll}
 use Rattle.sq_slices.specs.declared.Reach.{Reach}
 use Rattle.sq_slices.specs.Slices.{in_slice, slice, AgreeIn}
-use Rattle.sq_slices.specs.Reaches.{earlier, later, both, starts, windowed, both_if, union_reach, reach_at, box_reach}
+use Rattle.sq_slices.specs.Reaches.{earlier_reach, later_reach, both_reaches, starts, windowed, both_if, union_reach, reach_numbered, box_reach}
 use Rattle.sq_slices.specs.Laws.{FedWithin}
 use Rattle.sq_slices.proofs.SliceLemmas.{narrower, through}
 use Rattle.sq_slices.proofs.ReachLemmas.{HoldsFor, Agreed, AgreedIf, AllAgreed, Narrows, wide, same-reach, first-of-both, second-of-both, both-agreed, mapped-holds, agree-narrows, union-agreed}
@@ -76,7 +76,7 @@ module _ (lo hi : ℕ) where
   )
 
   join-step : (size : ℕ) (on : Expr) (r : Reach) (xl yl xr yr : List Tuple) → Agreed lo hi r xl yl → Agreed lo hi r xr yr
-      → Agreed lo hi (earlier size r) (join_list_of size on xl xr) (join_list_of size on yl yr)
+      → Agreed lo hi (earlier_reach size r) (join_list_of size on xl xr) (join_list_of size on yl yr)
   join-step size on r xl yl xr yr left right = (
     left.0,
     λ a b cut low high. (
@@ -94,7 +94,7 @@ module _ (lo hi : ℕ) where
   near-narrows : (size : ℕ) (xs ys : List Tuple) → Narrows lo hi (Near size xs ys)
   near-narrows size xs ys a b c le e = narrower (a - size) (c + size) (a - size) (b + size) (omega arith) (omega (arith, le)) xs ys e
 
-  near-of : (size : ℕ) (r : Reach) (xs ys : List Tuple) → Agreed lo hi r xs ys → HoldsFor lo hi (Near size xs ys) (earlier size (later size r))
+  near-of : (size : ℕ) (r : Reach) (xs ys : List Tuple) → Agreed lo hi r xs ys → HoldsFor lo hi (Near size xs ys) (earlier_reach size (later_reach size r))
   near-of size r xs ys good = (good.0, λ a b cut low high. wide lo hi r.cuts size size r xs ys good a b cut low high)
 
   resample-step : (fs : List Func) (size : ℕ) (r : Reach) (xl yl xr yr : List Tuple) → Agreed lo hi r xl yl → HoldsFor lo hi (Near size xr yr) r
@@ -110,7 +110,7 @@ module _ (lo hi : ℕ) where
   )
 
   sort-step : (by slack delay : ℕ) (r : Reach) (xs ys : List Tuple) → GivesAll (BSort by slack) xs × FedWithin delay (BSort by slack) xs → GivesAll (BSort by slack) ys × FedWithin delay (BSort by slack) ys
-      → Agreed lo hi r xs ys → Agreed lo hi (later delay r) (bsort_list_of by slack xs) (bsort_list_of by slack ys)
+      → Agreed lo hi r xs ys → Agreed lo hi (later_reach delay r) (bsort_list_of by slack xs) (bsort_list_of by slack ys)
   sort-step by slack delay r xs ys whole part good = (
     good.0,
     λ a b cut low high. (
@@ -125,11 +125,11 @@ module _ (lo hi : ℕ) where
     abbrev pub Law : ℕ → Type 0
     Law s = AgreedIf lo hi (reaches s) (full s) (part s)
 
-    first : (inputs : List ℕ) → AllByRecursion Law inputs → AgreedIf lo hi (reach_at (map reaches inputs) 0) (nth (map full inputs) 0) (nth (map part inputs) 0)
+    first : (inputs : List ℕ) → AllByRecursion Law inputs → AgreedIf lo hi (reach_numbered (map reaches inputs) 0) (nth (map full inputs) 0) (nth (map part inputs) 0)
     first [] all = tt
     first (s ∷ inputs) all = all.0
 
-    second : (inputs : List ℕ) → AllByRecursion Law inputs → AgreedIf lo hi (reach_at (map reaches inputs) 1) (nth (map full inputs) 1) (nth (map part inputs) 1)
+    second : (inputs : List ℕ) → AllByRecursion Law inputs → AgreedIf lo hi (reach_numbered (map reaches inputs) 1) (nth (map full inputs) 1) (nth (map part inputs) 1)
     second [] all = tt
     second (s ∷ inputs) all = first inputs all.1
 
@@ -149,36 +149,36 @@ module _ (lo hi : ℕ) where
         → IsFedInTime delay b (nth (map full inputs) 0) → IsFedInTime delay b (nth (map part inputs) 0)
         → AgreedIf lo hi (box_reach delay b (map reaches inputs)) (box_list b port (map full inputs)) (box_list b port (map part inputs))
     box-step delay (Filter preds) port inputs window all whole mine =
-        same-if (reach_at (map reaches inputs) 0) (nth (map full inputs) 0) (nth (map part inputs) 0) _ _
+        same-if (reach_numbered (map reaches inputs) 0) (nth (map full inputs) 0) (nth (map part inputs) 0) _ _
         (λ a b. filter-step (map (λ e. e.tree) preds) port a b (nth (map full inputs) 0) (nth (map part inputs) 0)) (first inputs all)
     box-step delay (Map exprs) port inputs window all whole mine =
-        same-if (reach_at (map reaches inputs) 0) (nth (map full inputs) 0) (nth (map part inputs) 0) _ _
+        same-if (reach_numbered (map reaches inputs) 0) (nth (map full inputs) 0) (nth (map part inputs) 0) _ _
         (λ a b. map-step (map (λ e. e.tree) exprs) a b (nth (map full inputs) 0) (nth (map part inputs) 0)) (first inputs all)
     box-step delay Union port inputs window all whole mine = union-if (union_reach (map reaches inputs)) inputs (union-agreed lo hi full part reaches inputs all)
     box-step None (BSort by slack) port inputs window all whole mine = tt
     box-step (Some delay) (BSort by slack) port inputs window all whole mine =
         let xs = nth (map full inputs) 0 in
         let ys = nth (map part inputs) 0 in
-        mapped-holds lo hi (λ a b. AgreeIn a b xs ys) (λ a b. AgreeIn a b (bsort_list_of by slack xs) (bsort_list_of by slack ys)) (later delay) (reach_at (map reaches inputs) 0)
+        mapped-holds lo hi (λ a b. AgreeIn a b xs ys) (λ a b. AgreeIn a b (bsort_list_of by slack xs) (bsort_list_of by slack ys)) (later_reach delay) (reach_numbered (map reaches inputs) 0)
         (λ r good. sort-step by slack delay r xs ys whole mine good) (first inputs all)
     box-step delay (Aggregate funcs group w) port inputs window all whole mine =
         let xs = nth (map full inputs) 0 in
         let ys = nth (map part inputs) 0 in
-        mapped-holds lo hi (λ a b. AgreeIn a b xs ys) (λ a b. AgreeIn a b (aggregate_list_of funcs group w xs) (aggregate_list_of funcs group w ys)) (windowed w) (reach_at (map reaches inputs) 0)
+        mapped-holds lo hi (λ a b. AgreeIn a b xs ys) (λ a b. AgreeIn a b (aggregate_list_of funcs group w xs) (aggregate_list_of funcs group w ys)) (windowed w) (reach_numbered (map reaches inputs) 0)
         (λ r good. aggregate-step funcs group w window r xs ys good) (first inputs all)
     box-step delay (Join size on) port inputs window all whole mine =
         let xl = nth (map full inputs) 0 in
         let yl = nth (map part inputs) 0 in
         let xr = nth (map full inputs) 1 in
         let yr = nth (map part inputs) 1 in
-        joined (reach_at (map reaches inputs) 0) (reach_at (map reaches inputs) 1) xl yl xr yr (first inputs all) (second inputs all)
+        joined (reach_numbered (map reaches inputs) 0) (reach_numbered (map reaches inputs) 1) xl yl xr yr (first inputs all) (second inputs all)
       where
         joined : (o p : Option Reach) (xl yl xr yr : List Tuple) → AgreedIf lo hi o xl yl → AgreedIf lo hi p xr yr
-            → AgreedIf lo hi (option_map (earlier size) (both_if o p)) (join_list_of size on.tree xl xr) (join_list_of size on.tree yl yr)
+            → AgreedIf lo hi (option_map (earlier_reach size) (both_if o p)) (join_list_of size on.tree xl xr) (join_list_of size on.tree yl yr)
         joined None p xl yl xr yr l r = tt
         joined (Some q) None xl yl xr yr l r = tt
         joined (Some q) (Some s) xl yl xr yr l r =
-            join-step size on.tree (both q s) xl yl xr yr
+            join-step size on.tree (both_reaches q s) xl yl xr yr
             (first-of-both lo hi (λ a b. AgreeIn a b xl yl) (agree-narrows lo hi xl yl) q s r.0 l)
             (second-of-both lo hi (λ a b. AgreeIn a b xr yr) (agree-narrows lo hi xr yr) q s l.0 r)
     box-step delay (Resample size funcs) port inputs window all whole mine =
@@ -187,7 +187,7 @@ module _ (lo hi : ℕ) where
         let xr = nth (map full inputs) 1 in
         let yr = nth (map part inputs) 1 in
         both-agreed lo hi (λ a b. AgreeIn a b xl yl) (Near size xr yr) (agree-narrows lo hi xl yl) (near-narrows size xr yr)
-        (reach_at (map reaches inputs) 0) (option_map (λ r. earlier size (later size r)) (reach_at (map reaches inputs) 1)) _ _
+        (reach_numbered (map reaches inputs) 0) (option_map (λ r. earlier_reach size (later_reach size r)) (reach_numbered (map reaches inputs) 1)) _ _
         (λ r left right. resample-step funcs size r xl yl xr yr left right) (first inputs all)
-        (mapped-holds lo hi (λ a b. AgreeIn a b xr yr) (Near size xr yr) (λ r. earlier size (later size r)) (reach_at (map reaches inputs) 1)
+        (mapped-holds lo hi (λ a b. AgreeIn a b xr yr) (Near size xr yr) (λ r. earlier_reach size (later_reach size r)) (reach_numbered (map reaches inputs) 1)
         (λ r good. near-of size r xr yr good) (second inputs all))

@@ -10,8 +10,10 @@ use Rattle.sq_value.specs.declared.Tuple.{Tuple}
 use Rattle.sq_words.specs.Lists.{contains_number, numbers_to}
 use Rattle.sq_words.proofs.Alls.{all_weaker}
 use Rattle.sq_words.proofs.Bools.{and_true}
+use Rattle.sq_words.proofs.Lists.{contains_filter}
 use Rattle.sq_words.proofs.Numbers.{eq_from, leb_from, times_up}
 use Rattle.sq_graph.specs.Wires.{output_arc_at}
+use Rattle.sq_place.proofs.Lists.{contains-range}
 use Rattle.sq_place.specs.declared.DropPoint.{DropPoint}
 use Rattle.sq_place.specs.Points.{until_of}
 use Rattle.sq_lines.specs.LineTexts.{drop_line}
@@ -23,7 +25,7 @@ use Rattle.sq_model.specs.FullStreams.{full_arc}
 use Rattle.sq_model.specs.Shedding.{Replay, is_touched, last_of, touched_by, batch_level, is_dropped, full_at, record_of, shown}
 use Rattle.sq_shard.proofs.Lists.{filter-swap, filter-under, filter-same, all-pass, map-same}
 use Rattle.sq_slices.specs.Slices.{in_slice, slice, AgreeIn, SourcesAgree}
-use Rattle.sq_slices.specs.Drops.{with_sources, batch_begin, kept_until, epoch_before, BatchesAgree, SlicesShowTheSame, drops_in, SlicesDropTheSame}
+use Rattle.sq_slices.specs.Drops.{of_part, batch_begin, kept_until, epoch_before, BatchesAgree, SlicesShowTheSame, drops_begun, SlicesDropTheSame}
 use Rattle.sq_slices.proofs.SliceLemmas.{narrower}
 
 -- ---- lists
@@ -38,43 +40,6 @@ any-is {X} p (x ∷ xs) = by (p x) (any-is p xs)
     by : (c : Bool) → list_any p xs ≡ ltb 0 (length (filter p xs)) → (c || list_any p xs) ≡ ltb 0 (length (cond c (x ∷ filter p xs) (filter p xs)))
     by true more = some (length (filter p xs))
     by false more = more
-
-contains-filter : (f : ℕ → Bool) (xs : List ℕ) (n : ℕ) → contains_number (filter f xs) n ≡ (f n && contains_number xs n)
-contains-filter f [] n = none (f n)
-  where
-    none : (c : Bool) → false ≡ (c && false)
-    none true = refl
-    none false = refl
-contains-filter f (x ∷ xs) n = by (f x) (eqb x n) refl refl (contains-filter f xs n)
-  where
-    with-true : (c : Bool) → c ≡ true → true ≡ (c && true)
-    with-true c e = rw e refl
-
-    with-false : (c d : Bool) → c ≡ false → false ≡ (c && d)
-    with-false c d e = rw e refl
-
-    by : (c d : Bool) → f x ≡ c → eqb x n ≡ d → contains_number (filter f xs) n ≡ (f n && contains_number xs n) → contains_number (cond c (x ∷ filter f xs) (filter f xs)) n ≡ (f n && (d || contains_number xs n))
-    by true true e h more = ap (λ z. z || contains_number (filter f xs) n) h ∙ with-true (f n) (sym (ap f (eq_from x n h)) ∙ e)
-    by true false e h more = ap (λ z. z || contains_number (filter f xs) n) h ∙ more
-    by false true e h more =
-        let no : f n ≡ false = sym (ap f (eq_from x n h)) ∙ e in
-        more ∙ ap (λ z. z && contains_number xs n) no ∙ with-false (f n) true no
-    by false false e h more = more
-
-contains-range : (a n k : ℕ) → a ≤ k → k < a + n → contains_number (range_with_len a n) k ≡ true
-contains-range a zero k low high = absurd (omega (arith, low, high))
-contains-range a (suc n) k low high =
-    elim (cases_lt a k) [
-      | inl less ↦ (ap (λ z. eqb a k || z) (contains-range (a + 1) n k (omega (arith, less)) (omega (arith, high))) ∙ or-true (eqb a k))
-      | inr past ↦ ap (λ z. z || contains_number (range_with_len (a + 1) n) k) (same a k (omega (arith, low, past)))
-    ]
-  where
-    or-true : (c : Bool) → (c || true) ≡ true
-    or-true true = refl
-    or-true false = refl
-
-    same : (a k : ℕ) → a ≡ k → eqb a k ≡ true
-    same a k h = grind (arith, nat_tests)
 
 -- two tests, one after the other
 filter-filter : {X : Type 0} (p q : X → Bool) (xs : List X) → filter p (filter q xs) ≡ filter (λ x. p x && q x) xs
@@ -127,15 +92,26 @@ any-early u v (x ∷ xs) h = by (in_slice u v x) refl h (any-early u v xs)
 in-record : (r : Replay) (w : ℕ) (p : DropPoint) → 1 ≤ p.length → (k : ℕ) → contains_number (record_of r w p) k ≡ (is_dropped r w p k && is_touched p (full_at r p.at) k)
 in-record r w p some k =
     let xs = full_at r p.at in
-    contains-filter (is_dropped r w p) (touched_by p xs) k
-    ∙ ap (λ z. is_dropped r w p k && z) (contains-filter (is_touched p xs) (numbers_to (last_of xs / p.length + 1)) k ∙ by (is_touched p xs k) refl)
+    contains_filter (is_dropped r w p) (touched_by p xs) k
+    ∙ ap (λ z. z && is_dropped r w p k) (contains_filter (is_touched p xs) (numbers_to (last_of xs / p.length + 1)) k ∙ by (is_touched p xs k) refl)
+    ∙ swap (is_touched p xs k) (is_dropped r w p k)
   where
-    by : (c : Bool) → is_touched p (full_at r p.at) k ≡ c → (c && contains_number (numbers_to (last_of (full_at r p.at) / p.length + 1)) k) ≡ c
+    swap : (c d : Bool) → (c && d) ≡ (d && c)
+    swap true true = refl
+    swap true false = refl
+    swap false true = refl
+    swap false false = refl
+
+    none : (c : Bool) → (c && false) ≡ false
+    none true = refl
+    none false = refl
+
+    by : (c : Bool) → is_touched p (full_at r p.at) k ≡ c → (contains_number (numbers_to (last_of (full_at r p.at) / p.length + 1)) k && c) ≡ c
     by true e =
         let low = any-early (k * p.length) (until_of p k) (full_at r p.at) e in
         let few = le-div k (last_of (full_at r p.at)) p.length some low in
-        contains-range 0 (last_of (full_at r p.at) / p.length + 1) k (omega arith) (omega (arith, few))
-    by false e = refl
+        ap (λ z. z && true) (contains-range 0 (last_of (full_at r p.at) / p.length + 1) k (omega arith) (omega (arith, few)))
+    by false e = none (contains_number (numbers_to (last_of (full_at r p.at) / p.length + 1)) k)
 
 touched-same : (p : DropPoint) (k : ℕ) (xs ys : List Tuple) → AgreeIn (k * p.length) (until_of p k) xs ys → is_touched p xs k ≡ is_touched p ys k
 touched-same p k xs ys e =
@@ -177,10 +153,10 @@ counts-same lo hi e E some low high (xs ∷ xss) (ys ∷ yss) count agree =
     ∙ ap (λ cs. count_by (λ x. eqb (x.time / E) e) ys ∷ cs) (counts-same lo hi e E some low high xss yss (omega (arith, count)) (λ s. agree (suc s)))
 
 module _ (r : Replay) (part : List (List Tuple)) (a b w : ℕ) (p : DropPoint) (agree : BatchesAgree r part a b (Some (w, p))) where
-  level-same : (k : ℕ) → a / p.length ≤ k → k * p.length < b → batch_level r (k * p.length / r.network.epoch) w ≡ batch_level (with_sources r part) (k * p.length / r.network.epoch) w
+  level-same : (k : ℕ) → a / p.length ≤ k → k * p.length < b → batch_level r (k * p.length / r.network.epoch) w ≡ batch_level (of_part r part) (k * p.length / r.network.epoch) w
   level-same k low high = by (k * p.length / r.network.epoch) refl
     where
-      by : (e : ℕ) → k * p.length / r.network.epoch ≡ e → batch_level r e w ≡ batch_level (with_sources r part) e w
+      by : (e : ℕ) → k * p.length / r.network.epoch ≡ e → batch_level r e w ≡ batch_level (of_part r part) e w
       by zero is = refl
       by (suc e) is =
           let E = r.network.epoch in
@@ -194,17 +170,17 @@ module _ (r : Replay) (part : List (List Tuple)) (a b w : ℕ) (p : DropPoint) (
 
   -- whether a batch of the slice is in the record
   fate-same : (k : ℕ) → a / p.length ≤ k → k * p.length < b
-      → (is_dropped r w p k && is_touched p (full_at r p.at) k) ≡ (is_dropped (with_sources r part) w p k && is_touched p (full_at (with_sources r part) p.at) k)
+      → (is_dropped r w p k && is_touched p (full_at r p.at) k) ≡ (is_dropped (of_part r part) w p k && is_touched p (full_at (of_part r part) p.at) k)
   fate-same k first high =
       let last : k ≤ (b - 1) / p.length = le-div k (b - 1) p.length agree.0 (omega (arith, high)) in
       let from = times_up (a / p.length) k p.length first in
       let to = times_up (k + 1) ((b - 1) / p.length + 1) p.length (omega (arith, last)) in
       ap (λ l. ltb (draw_of r.seed w k) l && is_touched p (full_at r p.at) k) (level-same k first high)
-      ∙ ap (λ c. is_dropped (with_sources r part) w p k && c)
-      (touched-same p k (full_at r p.at) (full_at (with_sources r part) p.at)
-      (narrower (batch_begin p a) (kept_until p b) (k * p.length) (until_of p k) from (omega (arith, to)) (full_at r p.at) (full_at (with_sources r part) p.at) agree.3))
+      ∙ ap (λ c. is_dropped (of_part r part) w p k && c)
+      (touched-same p k (full_at r p.at) (full_at (of_part r part) p.at)
+      (narrower (batch_begin p a) (kept_until p b) (k * p.length) (until_of p k) from (omega (arith, to)) (full_at r p.at) (full_at (of_part r part) p.at) agree.3))
 
-  dropped-same : (x : Tuple) → in_slice a b x ≡ true → contains_number (record_of r w p) (x.time / p.length) ≡ contains_number (record_of (with_sources r part) w p) (x.time / p.length)
+  dropped-same : (x : Tuple) → in_slice a b x ≡ true → contains_number (record_of r w p) (x.time / p.length) ≡ contains_number (record_of (of_part r part) w p) (x.time / p.length)
   dropped-same x here =
       let k = x.time / p.length in
       let parts = and_true (leb a x.time) (ltb x.time b) here in
@@ -212,15 +188,15 @@ module _ (r : Replay) (part : List (List Tuple)) (a b w : ℕ) (p : DropPoint) (
       let high = less x.time b parts.1 in
       let begin : k * p.length ≤ x.time = div-mul-le_self x.time p.length in
       let first : a / p.length ≤ k = le-div (a / p.length) x.time p.length agree.0 (let h = div-mul-le_self a p.length in omega (arith, h, low)) in
-      in-record r w p agree.0 k ∙ fate-same k first (omega (arith, begin, high)) ∙ sym (in-record (with_sources r part) w p agree.0 k)
+      in-record r w p agree.0 k ∙ fate-same k first (omega (arith, begin, high)) ∙ sym (in-record (of_part r part) w p agree.0 k)
     where
       less : (t b : ℕ) → ltb t b ≡ true → t < b
       less t b h = grind (arith, nat_tests)
 
-  shown-same : (xs ys : List Tuple) → AgreeIn a b xs ys → AgreeIn a b (shown r (Some (w, p)) xs) (shown (with_sources r part) (Some (w, p)) ys)
+  shown-same : (xs ys : List Tuple) → AgreeIn a b xs ys → AgreeIn a b (shown r (Some (w, p)) xs) (shown (of_part r part) (Some (w, p)) ys)
   shown-same xs ys e =
       let q : Tuple → Bool = λ x. not (contains_number (record_of r w p) (x.time / p.length)) in
-      let s : Tuple → Bool = λ x. not (contains_number (record_of (with_sources r part) w p) (x.time / p.length)) in
+      let s : Tuple → Bool = λ x. not (contains_number (record_of (of_part r part) w p) (x.time / p.length)) in
       filter-swap (in_slice a b) q xs ∙ ap (filter q) e
       ∙ filter-same q s (slice a b ys) (all_weaker (λ x. in_slice a b x ≡ true) (λ x. q x ≡ s x) (λ x here. ap not (dropped-same x here)) (slice a b ys) (all-pass (in_slice a b) ys))
       ∙ sym (filter-swap (in_slice a b) s ys)
@@ -256,10 +232,10 @@ module _ (r : Replay) (part : List (List Tuple)) (a b w : ℕ) (p : DropPoint) (
   abbrev fate : Replay → ℕ → Bool
   fate v k = begins k && (is_dropped v w p k && is_touched p (full_at v p.at) k)
 
-  fates-same : (k : ℕ) → fate r k ≡ fate (with_sources r part) k
+  fates-same : (k : ℕ) → fate r k ≡ fate (of_part r part) k
   fates-same k = by (begins k) refl
     where
-      by : (c : Bool) → begins k ≡ c → (c && (is_dropped r w p k && is_touched p (full_at r p.at) k)) ≡ (c && (is_dropped (with_sources r part) w p k && is_touched p (full_at (with_sources r part) p.at) k))
+      by : (c : Bool) → begins k ≡ c → (c && (is_dropped r w p k && is_touched p (full_at r p.at) k)) ≡ (c && (is_dropped (of_part r part) w p k && is_touched p (full_at (of_part r part) p.at) k))
       by true e = let h = from-begin k e in fate-same k h.0 h.1
       by false e = refl
 
@@ -287,16 +263,16 @@ module _ (r : Replay) (part : List (List Tuple)) (a b w : ℕ) (p : DropPoint) (
       ap (filter begins) (filter-filter (is_dropped v w p) (is_touched p (full_at v p.at)) (numbers_to (count_of v)))
       ∙ filter-filter begins (λ k. is_dropped v w p k && is_touched p (full_at v p.at) k) (numbers_to (count_of v))
 
-  records-same : filter begins (record_of r w p) ≡ filter begins (record_of (with_sources r part) w p)
+  records-same : filter begins (record_of r w p) ≡ filter begins (record_of (of_part r part) w p)
   records-same =
-      let v = with_sources r part in
+      let v = of_part r part in
       record-is r ∙ filter-each (fate r) (fate v) fates-same (numbers_to (count_of r))
       ∙ filter-long (fate v) (count_of r) (count_of v) (λ k late. sym (fates-same k) ∙ fate-late r k late) (fate-late v)
       ∙ sym (record-is v)
 
-  pub drops-same : drops_in r w p a b ≡ drops_in (with_sources r part) w p a b
+  pub drops-same : drops_begun r w p a b ≡ drops_begun (of_part r part) w p a b
   drops-same =
-      let v = with_sources r part in
+      let v = of_part r part in
       map-same (λ k. begins k ≡ true) (λ k. drop_line w k (batch_level r (k * p.length / r.network.epoch) w)) (λ k. drop_line w k (batch_level v (k * p.length / r.network.epoch) w))
       (λ k h. (let at = from-begin k h in ap (λ l. drop_line w k l) (level-same k at.0 at.1)))
       (filter begins (record_of r w p)) (all-pass begins (record_of r w p))
@@ -309,6 +285,6 @@ pub show-same : (r : Replay) → SlicesShowTheSame r
 show-same r part o a b batches agree = by (drop_above_output r.network o) batches
   where
     by : (d : Option (ℕ × DropPoint)) → BatchesAgree r part a b d
-        → AgreeIn a b (shown r d (full_arc r.network r.sources (output_arc_at r.network.wires o))) (shown (with_sources r part) d (full_arc r.network part (output_arc_at r.network.wires o)))
+        → AgreeIn a b (shown r d (full_arc r.network r.sources (output_arc_at r.network.wires o))) (shown (of_part r part) d (full_arc r.network part (output_arc_at r.network.wires o)))
     by None h = agree
     by (Some d) h = shown-same r part a b d.0 d.1 h (full_arc r.network r.sources (output_arc_at r.network.wires o)) (full_arc r.network part (output_arc_at r.network.wires o)) agree

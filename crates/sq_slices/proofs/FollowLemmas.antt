@@ -9,18 +9,18 @@ use Rattle.sq_model.specs.PlacedNetworks.{IsPlaced}
 use Rattle.sq_shard.proofs.Reasons.{named}
 use Rattle.sq_shard.proofs.RoundLemmas as rounds
 use Rattle.sq_slices.specs.declared.Reach.{Reach}
-use Rattle.sq_slices.specs.Reaches.{reach_at, reach_given, reach_of, reach_within, reaches_of, FollowsReaches, box_reach_at}
+use Rattle.sq_slices.specs.Reaches.{reach_numbered, reach_given, reach_of, reach_within, reaches_of, FollowsReaches, box_reach_at}
 use Rattle.sq_slices.specs.Laws.{UncutAreNamed}
 
 module _ (n : Network) (delay : Option ℕ) where
   port-alike : (f g : ℕ → Option Reach) (at port : ℕ) → map f (inputs_of n.wires at) ≡ map g (inputs_of n.wires at) → reach_given n delay f (Some (Port at port)) ≡ reach_given n delay g (Some (Port at port))
   port-alike f g at port e = ap (box_reach_at delay (slice_get n.boxes at)) e
 
-  pub next-reaches : (k : ℕ) → map (λ s. reach_given n delay (reach_at (map (reach_within n delay k) (numbers_to (length (producers_of n.wires))))) (producer_of n.wires s)) (numbers_to (length (producers_of n.wires)))
+  pub next-reaches : (k : ℕ) → map (λ s. reach_given n delay (reach_numbered (map (reach_within n delay k) (numbers_to (length (producers_of n.wires))))) (producer_of n.wires s)) (numbers_to (length (producers_of n.wires)))
       ≡ map (reach_within n delay (suc k)) (numbers_to (length (producers_of n.wires)))
   next-reaches = rounds.next-round n None (reach_given n delay) (λ f. refl) (λ f g k. refl) port-alike (reach_within n delay) (λ s. refl) (λ k s. refl)
 
-  pub reaches-follow : IsPlaced n → FollowsReaches n delay (reach_at (reaches_of n delay))
+  pub reaches-follow : IsPlaced n → FollowsReaches n delay (reach_numbered (reaches_of n delay))
   reaches-follow = rounds.follows n None (reach_given n delay) (λ f. refl) (λ f g k. refl) port-alike (reach_within n delay) (λ s. refl) (λ k s. refl)
 
   pub reach-of-follows : IsPlaced n → FollowsReaches n delay (reach_of n delay)

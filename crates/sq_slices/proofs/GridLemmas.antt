@@ -4,15 +4,14 @@ use Rattle.std.proofs.Math.Nat.{mod-lt, mod-eq_of_lt, mul-add-mod_self_right}
 use Rattle.std.proofs.lemmas.Nat.{mod-mul-add, div-add-mod'}
 use Rattle.std.proofs.lemmas.Bool.{cases_lt}
 use Rattle.std.specs.Prelude.{◌==◌}
+use Rattle.sq_words.proofs.Numbers.{eq_from}
 use Rattle.sq_slices.specs.declared.Grid.{Grid}
 use Rattle.sq_slices.specs.declared.Reach.{Reach}
-use Rattle.sq_slices.specs.Grids.{IsGrid, is_cut, gap, pad, moved, ahead_from}
+use Rattle.sq_slices.specs.Grids.{IsGrid, may_end, gap, pad, moved, ahead_from}
 
-eq-is : (a b : ℕ) → (a == b) ≡ true → a ≡ b
-eq-is a b h = grind (arith, tests)
-
-is-eq : (a b : ℕ) → a ≡ b → (a == b) ≡ true
-is-eq a b h = grind (arith, tests)
+-- what leaves the phase is a cut
+lands : (left phase : ℕ) → left ≡ phase → (left == phase) ≡ true
+lands left phase h = grind (arith, tests)
 
 one-more : (q s p : ℕ) → (q + 1) * s + p ≡ q * s + s + p
 one-more q s p = grind arith
@@ -57,25 +56,25 @@ more-left s t more =
     let parts : t / s * s + t % s ≡ t = div-add-mod' t s in
     ap (λ n. n % s) (let sum : t + more ≡ t / s * s + (t % s + more) = omega (arith, parts) in sum) ∙ mul-add-mod_self_right (t / s) s (t % s + more)
 
-pub gap-cuts : (g : Grid) → IsGrid g → (t : ℕ) → is_cut g (t + gap g t) ≡ true
-gap-cuts g grid t = is-eq ((t + gap g t) % g.step) g.phase (gap-lands g.step g.phase t grid.moves grid.begins)
+pub gap-cuts : (g : Grid) → IsGrid g → (t : ℕ) → may_end g (t + gap g t) ≡ true
+gap-cuts g grid t = lands ((t + gap g t) % g.step) g.phase (gap-lands g.step g.phase t grid.moves grid.begins)
 
 pub gap-low : (g : Grid) → IsGrid g → (t : ℕ) → gap g t < g.step
 gap-low g grid t = mod-lt (g.phase + g.step - t % g.step) grid.moves
 
-pub moved-cut : (g : Grid) (more t : ℕ) → is_cut g t ≡ true → is_cut (moved g more) (t + more) ≡ true
+pub moved-cut : (g : Grid) (more t : ℕ) → may_end g t ≡ true → may_end (moved g more) (t + more) ≡ true
 moved-cut g more t cut =
-    is-eq ((t + more) % g.step) ((g.phase + more) % g.step) (more-left g.step t more ∙ ap (λ n. (n + more) % g.step) (eq-is (t % g.step) g.phase cut))
+    lands ((t + more) % g.step) ((g.phase + more) % g.step) (more-left g.step t more ∙ ap (λ n. (n + more) % g.step) (eq_from (t % g.step) g.phase cut))
 
 pub moved-grid : (g : Grid) (more : ℕ) → IsGrid g → IsGrid (moved g more)
 moved-grid g more grid = record { moves = grid.moves; begins = mod-lt (g.phase + more) grid.moves }
 
-pub pad-covers : (g h : Grid) → IsGrid h → (t : ℕ) → is_cut g t ≡ true → gap h t ≤ pad g h
+pub pad-covers : (g h : Grid) → IsGrid h → (t : ℕ) → may_end g t ≡ true → gap h t ≤ pad g h
 pad-covers g h grid t cut = by (g.step % h.step == 0) refl
   where
     by : (b : Bool) → (g.step % h.step == 0) ≡ b → gap h t ≤ cond b (gap h g.phase) (h.step - 1)
     by true e =
-        let same : t % h.step ≡ g.phase % h.step = left-of g.step h.step t (eq-is (g.step % h.step) 0 e) ∙ ap (λ n. n % h.step) (eq-is (t % g.step) g.phase cut) in
+        let same : t % h.step ≡ g.phase % h.step = left-of g.step h.step t (eq_from (g.step % h.step) 0 e) ∙ ap (λ n. n % h.step) (eq_from (t % g.step) g.phase cut) in
         let gaps : gap h t ≡ gap h g.phase = ap (λ r. (h.phase + h.step - r) % h.step) same in
         omega (arith, gaps)
     by false e = let low = gap-low h grid t in omega (arith, low)
@@ -84,10 +83,10 @@ pad-covers g h grid t cut = by (g.step % h.step == 0) refl
 abbrev pub end_from : ℕ → ℕ → Reach → ℕ
 end_from t more r = t + more + gap r.cuts (t + more)
 
-pub end-cut : (t more : ℕ) (r : Reach) → IsGrid r.cuts → is_cut r.cuts (end_from t more r) ≡ true
+pub end-cut : (t more : ℕ) (r : Reach) → IsGrid r.cuts → may_end r.cuts (end_from t more r) ≡ true
 end-cut t more r grid = gap-cuts r.cuts grid (t + more)
 
-pub end-within : (g : Grid) (t more : ℕ) (r : Reach) → IsGrid r.cuts → is_cut g t ≡ true → end_from t more r + r.ahead ≤ t + ahead_from g more r
+pub end-within : (g : Grid) (t more : ℕ) (r : Reach) → IsGrid r.cuts → may_end g t ≡ true → end_from t more r + r.ahead ≤ t + ahead_from g more r
 end-within g t more r grid cut =
     let far = pad-covers (moved g more) r.cuts grid (t + more) (moved-cut g more t cut) in
     omega (arith, far)

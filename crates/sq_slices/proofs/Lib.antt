@@ -16,3 +16,4 @@ pub mod DropLemmas
 pub mod PlanLemmas
 pub mod ShowLemmas
 mod SliceRows
+mod DropRows

@@ -38,45 +38,39 @@ moved lo hi o p xs vs ys ws e f g h =
 
 module _ (n : Network) (sound : IsSound n) (delay : Option ℕ) (reaches : ℕ → Option Reach) (follows : FollowsReaches n delay reaches)
     (sources part : List (List Tuple)) (lo hi : ℕ) (agree : SourcesAgree lo hi sources part) (calm : AreInTime n delay sources) (mine : AreInTime n delay part) where
-  abbrev full : ℕ → List Tuple
-  full s = full_stream n sources s
-
-  abbrev answered : ℕ → List Tuple
-  answered s = full_stream n part s
-
   abbrev Holds : ℕ → Type 0
-  Holds s = Law lo hi reaches full answered s
+  Holds s = Law lo hi reaches (full_stream n sources) (full_stream n part) s
 
   box-holds : (at port : ℕ) (o : Option Node) → slice_get n.boxes at ≡ o → AllByRecursion Holds (inputs_of n.wires at)
-      → AgreedIf lo hi (box_reach_at delay o (map reaches (inputs_of n.wires at))) (box_list_at o port (map full (inputs_of n.wires at))) (box_list_at o port (map answered (inputs_of n.wires at)))
+      → AgreedIf lo hi (box_reach_at delay o (map reaches (inputs_of n.wires at))) (box_list_at o port (map (full_stream n sources) (inputs_of n.wires at))) (box_list_at o port (map (full_stream n part) (inputs_of n.wires at)))
   box-holds at port None e all = tt
   box-holds at port (Some b) e all =
-      box-step lo hi reaches full answered delay b.body port (inputs_of n.wires at)
+      box-step lo hi reaches (full_stream n sources) (full_stream n part) delay b.body port (inputs_of n.wires at)
       (all_at (λ (b : Node). HasWindow b.body) n.boxes at b (recursion_from_All (λ (b : Node). HasWindow b.body) n.boxes sound.windows) e) all
       (fed-in-time n sound delay sources calm at b e) (fed-in-time n sound delay part mine at b e)
 
-  full-given : (s : ℕ) → full s ≡ produced n sources full (producer_of n.wires s)
+  full-given : (s : ℕ) → full_stream n sources s ≡ produced n sources (full_stream n sources) (producer_of n.wires s)
   full-given = full_follows n sources (placed_of n sound)
 
-  part-given : (s : ℕ) → answered s ≡ produced n part answered (producer_of n.wires s)
+  part-given : (s : ℕ) → full_stream n part s ≡ produced n part (full_stream n part) (producer_of n.wires s)
   part-given = full_follows n part (placed_of n sound)
 
   by-none : (s : ℕ) → producer_of n.wires s ≡ None → Holds s
   by-none s is =
-      moved lo hi (reaches s) None (full s) (produced n sources full None) (answered s) (produced n part answered None)
-      (follows s ∙ ap (reach_given n delay reaches) is) (full-given s ∙ ap (produced n sources full) is) (part-given s ∙ ap (produced n part answered) is) tt
+      moved lo hi (reaches s) None (full_stream n sources s) (produced n sources (full_stream n sources) None) (full_stream n part s) (produced n part (full_stream n part) None)
+      (follows s ∙ ap (reach_given n delay reaches) is) (full-given s ∙ ap (produced n sources (full_stream n sources)) is) (part-given s ∙ ap (produced n part (full_stream n part)) is) tt
 
   by-source : (s k : ℕ) → producer_of n.wires s ≡ Some (Source k) → Holds s
   by-source s k is =
-      moved lo hi (reaches s) (Some own_reach) (full s) (nth sources k) (answered s) (nth part k)
-      (follows s ∙ ap (reach_given n delay reaches) is) (full-given s ∙ ap (produced n sources full) is) (part-given s ∙ ap (produced n part answered) is)
+      moved lo hi (reaches s) (Some own_reach) (full_stream n sources s) (nth sources k) (full_stream n part s) (nth part k)
+      (follows s ∙ ap (reach_given n delay reaches) is) (full-given s ∙ ap (produced n sources (full_stream n sources)) is) (part-given s ∙ ap (produced n part (full_stream n part)) is)
       (own-agreed lo hi (nth sources k) (nth part k) (agree k))
 
   by-port : (s at port : ℕ) → producer_of n.wires s ≡ Some (Port at port) → AllByRecursion Holds (inputs_of n.wires at) → Holds s
   by-port s at port is all =
       moved lo hi (reaches s) (box_reach_at delay (slice_get n.boxes at) (map reaches (inputs_of n.wires at)))
-      (full s) (produced n sources full (Some (Port at port))) (answered s) (produced n part answered (Some (Port at port)))
-      (follows s ∙ ap (reach_given n delay reaches) is) (full-given s ∙ ap (produced n sources full) is) (part-given s ∙ ap (produced n part answered) is)
+      (full_stream n sources s) (produced n sources (full_stream n sources) (Some (Port at port))) (full_stream n part s) (produced n part (full_stream n part) (Some (Port at port)))
+      (follows s ∙ ap (reach_given n delay reaches) is) (full-given s ∙ ap (produced n sources (full_stream n sources)) is) (part-given s ∙ ap (produced n part (full_stream n part)) is)
       (box-holds at port (slice_get n.boxes at) refl all)
 
   agreed : (s : ℕ) → Holds s

@@ -18,7 +18,7 @@ use Rattle.sq_points.specs.Points.{setting_of}
 use Rattle.sq_model.specs.PlanLines.{last_epoch}
 use Rattle.sq_model.specs.Shedding.{Replay, counts_in}
 use Rattle.sq_shard.proofs.Lists.{filter-flat_map, flat_map-same, flat_map-wider}
-use Rattle.sq_slices.specs.Drops.{with_sources, epoch_before, plans_in, PlansAgree, SlicesPlanTheSame}
+use Rattle.sq_slices.specs.Drops.{of_part, epoch_before, plans_begun, PlansAgree, SlicesPlanTheSame}
 use Rattle.sq_slices.proofs.DropLemmas.{counts-same}
 
 -- a plan is for its epoch, so where that doesn't pass there is none
@@ -45,7 +45,7 @@ module _ (r : Replay) (part : List (List Tuple)) (a b : ℕ) (agree : PlansAgree
   E = r.network.epoch
 
   abbrev v : Replay
-  v = with_sources r part
+  v = of_part r part
 
   abbrev begins : Shown → Bool
   begins p = leb a (p.epoch * E) && ltb (p.epoch * E) b
@@ -119,7 +119,7 @@ module _ (r : Replay) (part : List (List Tuple)) (a b : ℕ) (agree : PlansAgree
           ]
       ]
 
-  pub plans-same : plans_in r a b ≡ plans_in v a b
+  pub plans-same : plans_begun r a b ≡ plans_begun v a b
   plans-same =
       filter-flat_map begins (λ e. shown_from (setting_of r.network r.entries) e (counts_in r e)) (numbers_to (last_epoch r))
       ∙ flat_map-same (plan r) (plan v) plan-same (numbers_to (last_epoch r)) ∙ lists-same

@@ -8,16 +8,16 @@ use Rattle.sq_value.specs.declared.Tuple.{Tuple}
 use Rattle.sq_words.proofs.Alls.{all_weaker}
 use Rattle.sq_slices.specs.declared.Grid.{Grid}
 use Rattle.sq_slices.specs.declared.Reach.{Reach}
-use Rattle.sq_slices.specs.Grids.{IsGrid, is_cut, ahead_from}
+use Rattle.sq_slices.specs.Grids.{IsGrid, may_end, ahead_from}
 use Rattle.sq_slices.specs.Slices.{AgreeIn}
-use Rattle.sq_slices.specs.Reaches.{own_reach, beside, both, both_if, union_reach}
+use Rattle.sq_slices.specs.Reaches.{own_reach, beside_reach, both_reaches, both_if, union_reach}
 use Rattle.sq_slices.proofs.GridLemmas.{end_from, end-cut, end-within}
 use Rattle.sq_slices.proofs.SliceLemmas.{narrower}
 
 module _ (lo hi : ℕ) where
   -- of each slice that reaches no further than what is there
   abbrev pub HoldsFor : (ℕ → ℕ → Type 0) → Reach → Type 0
-  HoldsFor P r = IsGrid r.cuts × ((a b : ℕ) → is_cut r.cuts b ≡ true → lo ≤ a - r.back → b + r.ahead ≤ hi → P a b)
+  HoldsFor P r = IsGrid r.cuts × ((a b : ℕ) → may_end r.cuts b ≡ true → lo ≤ a - r.back → b + r.ahead ≤ hi → P a b)
 
   abbrev pub HoldsIf : (ℕ → ℕ → Type 0) → Option Reach → Type 0
   HoldsIf P None = ⊤
@@ -32,7 +32,7 @@ module _ (lo hi : ℕ) where
 
   -- a stream that is needed in a wider slice, which ends behind a cut of another grid
   pub wide : (g : Grid) (before more : ℕ) (r : Reach) (xs ys : List Tuple) → Agreed r xs ys
-      → (a b : ℕ) → is_cut g b ≡ true → lo ≤ a - (before + r.back) → b + ahead_from g more r ≤ hi → AgreeIn (a - before) (b + more) xs ys
+      → (a b : ℕ) → may_end g b ≡ true → lo ≤ a - (before + r.back) → b + ahead_from g more r ≤ hi → AgreeIn (a - before) (b + more) xs ys
   wide g before more r xs ys good a b cut low high =
       let e = end_from b more r in
       let within = end-within g b more r good.0 cut in
@@ -54,10 +54,10 @@ module _ (lo hi : ℕ) where
   -- ---- two streams
 
   module _ (P : ℕ → ℕ → Type 0) (narrows : Narrows P) where
-    beside-first : (r q : Reach) → HoldsFor P r → HoldsFor P (beside r q)
+    beside-first : (r q : Reach) → HoldsFor P r → HoldsFor P (beside_reach r q)
     beside-first r q good = (good.0, λ a b cut low high. good.1 a b cut (omega (arith, low)) (omega (arith, high)))
 
-    beside-second : (r q : Reach) → IsGrid r.cuts → HoldsFor P q → HoldsFor P (beside r q)
+    beside-second : (r q : Reach) → IsGrid r.cuts → HoldsFor P q → HoldsFor P (beside_reach r q)
     beside-second r q grid good = (
       grid,
       λ a b cut low high. (
@@ -66,24 +66,24 @@ module _ (lo hi : ℕ) where
           narrows a b e (omega arith) (good.1 a e (end-cut b 0 q good.0) (omega (arith, low)) (omega (arith, within, high)))),
     )
 
-    pub first-of-both : (r q : Reach) → IsGrid q.cuts → HoldsFor P r → HoldsFor P (both r q)
+    pub first-of-both : (r q : Reach) → IsGrid q.cuts → HoldsFor P r → HoldsFor P (both_reaches r q)
     first-of-both r q grid good = by (leb q.cuts.step r.cuts.step)
       where
-        by : (c : Bool) → HoldsFor P (cond c (beside r q) (beside q r))
+        by : (c : Bool) → HoldsFor P (cond c (beside_reach r q) (beside_reach q r))
         by true = beside-first r q good
         by false = beside-second q r grid good
 
-    pub second-of-both : (r q : Reach) → IsGrid r.cuts → HoldsFor P q → HoldsFor P (both r q)
+    pub second-of-both : (r q : Reach) → IsGrid r.cuts → HoldsFor P q → HoldsFor P (both_reaches r q)
     second-of-both r q grid good = by (leb q.cuts.step r.cuts.step)
       where
-        by : (c : Bool) → HoldsFor P (cond c (beside r q) (beside q r))
+        by : (c : Bool) → HoldsFor P (cond c (beside_reach r q) (beside_reach q r))
         by true = beside-second r q grid good
         by false = beside-first q r good
 
-  both-grid : (r q : Reach) → IsGrid r.cuts → IsGrid q.cuts → IsGrid (both r q).cuts
+  both-grid : (r q : Reach) → IsGrid r.cuts → IsGrid q.cuts → IsGrid (both_reaches r q).cuts
   both-grid r q first second = by (leb q.cuts.step r.cuts.step)
     where
-      by : (c : Bool) → IsGrid (cond c (beside r q) (beside q r)).cuts
+      by : (c : Bool) → IsGrid (cond c (beside_reach r q) (beside_reach q r)).cuts
       by true = first
       by false = second
 
@@ -123,7 +123,7 @@ module _ (lo hi : ℕ) where
       → ((r : Reach) → HoldsFor P r → HoldsFor Q r → Agreed r vs ws) → HoldsIf P o → HoldsIf Q p → AgreedIf (both_if o p) vs ws
   both-agreed P Q np nq None p vs ws h l r = tt
   both-agreed P Q np nq (Some q) None vs ws h l r = tt
-  both-agreed P Q np nq (Some q) (Some s) vs ws h l r = h (both q s) (first-of-both P np q s r.0 l) (second-of-both Q nq q s l.0 r)
+  both-agreed P Q np nq (Some q) (Some s) vs ws h l r = h (both_reaches q s) (first-of-both P np q s r.0 l) (second-of-both Q nq q s l.0 r)
 
   pub mapped-holds : (P Q : ℕ → ℕ → Type 0) (f : Reach → Reach) (o : Option Reach) → ((r : Reach) → HoldsFor P r → HoldsFor Q (f r)) → HoldsIf P o → HoldsIf Q (option_map f o)
   mapped-holds P Q f None h good = tt
@@ -147,7 +147,7 @@ module _ (lo hi : ℕ) where
           first.0,
           (
             first,
-            all_weaker (λ s. Agreed q (full s) (part s)) (λ s. Agreed (both r q) (full s) (part s))
+            all_weaker (λ s. Agreed q (full s) (part s)) (λ s. Agreed (both_reaches r q) (full s) (part s))
                 (λ s good. second-of-both (λ a b. AgreeIn a b (full s) (part s)) (agree-narrows (full s) (part s)) r q here.0 good) inputs more.1,
           ),
         )

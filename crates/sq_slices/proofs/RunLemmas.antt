@@ -24,10 +24,10 @@ use Rattle.sq_model.proofs.PlacedLemmas.{placed_of}
 use Rattle.sq_shard.proofs.InOrder.{by-order}
 use Rattle.sq_shard.proofs.Reasons.{inputs-there}
 use Rattle.sq_slices.specs.declared.Reach.{Reach}
-use Rattle.sq_slices.specs.Grids.{IsGrid, is_cut}
+use Rattle.sq_slices.specs.Grids.{IsGrid, may_end}
 use Rattle.sq_slices.specs.Bounds.{IsLow}
 use Rattle.sq_slices.specs.Slices.{AgreeIn, SourcesAgree}
-use Rattle.sq_slices.specs.Reaches.{own_reach, earlier, union_reach, box_reach_at, reach_given, reach_of, reaches_of, FollowsReaches}
+use Rattle.sq_slices.specs.Reaches.{own_reach, earlier_reach, union_reach, box_reach_at, reach_given, reach_of, reaches_of, FollowsReaches}
 use Rattle.sq_slices.specs.Laws.{AreInTime, Slice, last_end, AreSlices, run_reach, SlicesMakeTheRun}
 use Rattle.sq_slices.proofs.SliceLemmas.{narrower}
 use Rattle.sq_slices.proofs.ReachLemmas.{AgreedIf, HoldsIf, agree-narrows, own-agreed, holds-for-all}
@@ -39,14 +39,14 @@ use Rattle.sq_slices.proofs.WholeLemmas.{AllAnswer, stream, whole}
 use Rattle.sq_slices.proofs.ZoneLemmas.{in-time}
 
 -- a slice that reaches as far as several streams, and so many ticks further back, agrees for so many ticks before it
-checked : (lo hi delay : ℕ) (P : ℕ → ℕ → Type 0) (o : Option Reach) (r : Reach) → option_map (earlier delay) o ≡ Some r → HoldsIf lo hi P o
-    → (a b : ℕ) → is_cut r.cuts b ≡ true → lo ≤ a - r.back → b + r.ahead ≤ hi → P (a - delay) b
+checked : (lo hi delay : ℕ) (P : ℕ → ℕ → Type 0) (o : Option Reach) (r : Reach) → option_map (earlier_reach delay) o ≡ Some r → HoldsIf lo hi P o
+    → (a b : ℕ) → may_end r.cuts b ≡ true → lo ≤ a - r.back → b + r.ahead ≤ hi → P (a - delay) b
 checked lo hi delay P None r is good a b cut low high = absurd (cc is)
 checked lo hi delay P (Some u) r is good a b cut low high =
-    let e : earlier delay u ≡ r = cc in
+    let e : earlier_reach delay u ≡ r = cc in
     let back = ap (λ (q : Reach). q.back) e in
     let ahead = ap (λ (q : Reach). q.ahead) e in
-    good.1 (a - delay) b (subst (λ (q : Reach). is_cut q.cuts b ≡ true) (sym e) cut) (omega (arith, low, back)) (omega (arith, high, ahead))
+    good.1 (a - delay) b (subst (λ (q : Reach). may_end q.cuts b ≡ true) (sym e) cut) (omega (arith, low, back)) (omega (arith, high, ahead))
 
 module _ (n : Network) (sound : IsSound n) (delay : ℕ) (small : delay < 2 ^ 40) (sources : List (List Tuple)) (streams : All IsStream sources)
     (r : Reach) (is : run_reach n delay ≡ Some r) where
@@ -64,7 +64,7 @@ module _ (n : Network) (sound : IsSound n) (delay : ℕ) (small : delay < 2 ^ 40
 
   -- where a slice begins and ends, and what it has of the sources
   abbrev Zone : ℕ → ℕ → Type 0
-  Zone a b = (part : List (List Tuple)) × (is_cut r.cuts b ≡ true) × SourcesAgree (a - r.back) (b + r.ahead) sources part × AreInTime n (Some delay) part
+  Zone a b = (part : List (List Tuple)) × (may_end r.cuts b ≡ true) × SourcesAgree (a - r.back) (b + r.ahead) sources part × AreInTime n (Some delay) part
 
   abbrev Covers : Type 0
   Covers = (t : ℕ) → t < 2 ^ 40 → (a : ℕ) × (b : ℕ) × Zone a b × (a ≤ t) × (t < b)

@@ -28,7 +28,7 @@ use Rattle.sq_slices.specs.declared.Reach.{Reach}
 use Rattle.sq_slices.specs.Slices.{AgreeIn, SourcesAgree, slice}
 use Rattle.sq_slices.specs.Reaches.{FollowsReaches}
 use Rattle.sq_slices.specs.Laws.{AreInTime}
-use Rattle.sq_slices.specs.Drops.{with_sources, batch_begin, kept_until, epoch_before, BatchesAgree, drops_in, ReachesInto, stream_of_place, DropReachesInto, DropsReachInto, SlicesShowTheRun}
+use Rattle.sq_slices.specs.Drops.{of_part, batch_begin, kept_until, epoch_before, BatchesAgree, drops_begun, ReachesInto, PlaceReachesInto, DropReachesInto, DropsReachInto, SlicesShowTheRun}
 use Rattle.sq_slices.proofs.SliceLemmas.{narrower}
 use Rattle.sq_slices.proofs.NetworkSteps.{slices-answer}
 use Rattle.sq_slices.proofs.DropLemmas.{drop-same, show-same}
@@ -76,7 +76,7 @@ module _ (r : Replay) (sound : IsSound r.network) (limits : KeepsDropLimits r.ne
   measured : AllByRecursion IsMeasured (points_of r.network)
   measured = recursion_from_All IsMeasured (points_of r.network) (all-measured r.network sound limits)
 
-  at-place : (p : DropAt) (u v : ℕ) → ReachesInto reaches lo hi (stream_of_place r.network p) u v → AgreeIn u v (full_at r p) (full_at (with_sources r part) p)
+  at-place : (p : DropAt) (u v : ℕ) → PlaceReachesInto r.network reaches lo hi p u v → AgreeIn u v (full_at r p) (full_at (of_part r part) p)
   at-place (at.Stream s) u v into = stream-agrees r.network sound delay reaches follows r.sources part lo hi agree calm mine s u v into
   at-place (at.Arc x) u v into = arc-agrees r.network sound delay reaches follows r.sources part lo hi agree calm mine x u v into
 
@@ -97,11 +97,11 @@ module _ (r : Replay) (sound : IsSound r.network) (limits : KeepsDropLimits r.ne
       by (Some d) is h = batches d.0 d.1 (first-measured (λ p. contains_number p.outputs o) 0 (points_of r.network) measured d is) h
 
   pub shows : (o : ℕ) → ReachesInto reaches lo hi (stream_on r.network.wires (output_arc_at r.network.wires o)) a b → DropsReachInto r reaches lo hi a b (drop_above_output r.network o)
-      → AgreeIn a b (answer_of r o) (answer_of (with_sources r part) o)
+      → AgreeIn a b (answer_of r o) (answer_of (of_part r part) o)
   shows o output drop =
       show-same r part o a b (above o drop) (arc-agrees r.network sound delay reaches follows r.sources part lo hi agree calm mine (output_arc_at r.network.wires o) a b output)
 
-  pub drops : (w : ℕ) (p : DropPoint) → slice_get (points_of r.network) w ≡ Some p → DropReachesInto r reaches lo hi a b p → drops_in r w p a b ≡ drops_in (with_sources r part) w p a b
+  pub drops : (w : ℕ) (p : DropPoint) → slice_get (points_of r.network) w ≡ Some p → DropReachesInto r reaches lo hi a b p → drops_begun r w p a b ≡ drops_begun (of_part r part) w p a b
   drops w p there h = drop-same r part w p a b (batches w p (measured-at (points_of r.network) measured w p there) h)
 
 pub show-run : (r : Replay) → IsSound r.network → KeepsDropLimits r.network → (delay : Option ℕ) (reaches : ℕ → Option Reach) → FollowsReaches r.network delay reaches → SlicesShowTheRun r delay reaches

@@ -1,5 +1,5 @@
 -- Worked rows of slices, of cuts, and of how far slices reach.
-use Rattle.std.proofs.Common.{◌≡◌, refl, ℕ, true, List, [], ◌∷◌, Some, None, pos}
+use Rattle.std.proofs.Common.{◌≡◌, refl, ℕ, true, List, [], ◌∷◌, ◌++◌, Some, None, pos}
 use Rattle.std.specs.Prelude.{codes}
 use Rattle.std.specs.List.{find}
 use Rattle.sq_value.specs.declared.Tuple.{Tuple}
@@ -19,9 +19,9 @@ use Rattle.sq_net.specs.declared.Source.{Source}
 use Rattle.sq_model.specs.FullStreams.{full_stream}
 use Rattle.sq_slices.specs.declared.Grid.{Grid}
 use Rattle.sq_slices.specs.declared.Reach.{Reach}
-use Rattle.sq_slices.specs.Grids.{gap, is_cut, pad}
+use Rattle.sq_slices.specs.Grids.{gap, may_end, pad}
 use Rattle.sq_slices.specs.Slices.{slice}
-use Rattle.sq_slices.specs.Reaches.{box_reach, both, earlier, is_uncut, own_reach, reach_at, reaches_of, union_reach}
+use Rattle.sq_slices.specs.Reaches.{box_reach, both_reaches, earlier_reach, is_uncut, own_reach, reach_numbered, reaches_of, union_reach}
 use Rattle.sq_slices.specs.Laws.{Slice, answers_behind}
 
 abbrev at : ℕ → Tuple
@@ -30,12 +30,16 @@ at t = record { time = t; fields = [] }
 row-slice : slice 10 20 (at 5 ∷ at 10 ∷ at 19 ∷ at 20 ∷ []) ≡ at 10 ∷ at 19 ∷ []
 row-slice = refl
 
+-- slices that overlap by a tick have its tuples twice
+row-overlap : slice 0 11 (at 5 ∷ at 10 ∷ at 19 ∷ []) ++ slice 10 20 (at 5 ∷ at 10 ∷ at 19 ∷ []) ≡ at 5 ∷ at 10 ∷ at 10 ∷ at 19 ∷ []
+row-overlap = refl
+
 -- ---- cuts
 
 abbrev every : ℕ → ℕ → Grid
 every step phase = record { step = step; phase = phase }
 
-row-cut : is_cut (every 60 15) 75 ≡ true
+row-cut : may_end (every 60 15) 75 ≡ true
 row-cut = refl
 
 row-gap : gap (every 60 15) 70 ≡ 5
@@ -82,7 +86,7 @@ row-union = refl
 row-sample : box_reach None (Resample 30 (func.Count ∷ [])) (Some own_reach ∷ Some (reach 0 0 60 0) ∷ []) ≡ Some (reach 30 60 60 0)
 row-sample = refl
 
-row-pairs : earlier 30 (both own_reach (reach 0 0 60 0)) ≡ reach 30 0 60 0
+row-pairs : earlier_reach 30 (both_reaches own_reach (reach 0 0 60 0)) ≡ reach 30 0 60 0
 row-pairs = refl
 
 row-sort : box_reach None (BSort 0 3) (Some own_reach ∷ []) ≡ None
@@ -123,7 +127,7 @@ network = record {
 row-reaches : reaches_of network None ≡ Some own_reach ∷ Some own_reach ∷ Some own_reach ∷ Some (reach 0 0 10 0) ∷ Some (reach 0 10 10 0) ∷ None ∷ []
 row-reaches = refl
 
-row-uncut : find (is_uncut network None (reach_at (reaches_of network None))) (numbers_to 4) ≡ Some 3
+row-uncut : find (is_uncut network None (reach_numbered (reaches_of network None))) (numbers_to 4) ≡ Some 3
 row-uncut = refl
 
 abbrev sources : List (List Tuple)

@@ -17,12 +17,12 @@ use Rattle.sq_place.proofs.Deciding.{filter-mapped}
 use Rattle.sq_model.specs.Shedding.{last_of}
 use Rattle.sq_shard.proofs.Windows.{late-window, last-filter}
 use Rattle.sq_shard.proofs.Lists.{filter-under, filter-flat_map, filter-none, map-same, all-pass, flat_map-same, flat_map-map, flat_map-wider}
-use Rattle.sq_slices.specs.Grids.{is_cut}
+use Rattle.sq_slices.specs.Grids.{may_end}
 use Rattle.sq_slices.specs.Slices.{in_slice, slice}
 use Rattle.sq_slices.specs.Reaches.{starts}
 
 -- a window that begins before a cut ends no further behind it than its size less an advance
-pub ends-within : (w : WindowSpec) (b : ℕ) → is_cut (starts w) b ≡ true → w.advance ≤ w.size → (k : ℕ) → start_of w k < b → start_of w k + w.size ≤ b + (w.size - w.advance)
+pub ends-within : (w : WindowSpec) (b : ℕ) → may_end (starts w) b ≡ true → w.advance ≤ w.size → (k : ℕ) → start_of w k < b → start_of w k + w.size ≤ b + (w.size - w.advance)
 ends-within w b cut longer k before =
     let parts : b / w.advance * w.advance + b % w.advance ≡ b = div-add-mod' b w.advance in
     let left = eq_from (b % w.advance) w.phase cut in

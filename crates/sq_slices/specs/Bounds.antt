@@ -3,7 +3,7 @@ use Rattle.std.specs.Prelude.{ℕ, ◌≤◌, ◌^◌, List, Option}
 use Rattle.std.specs.Option.{IfSome}
 use Rattle.sq_slices.specs.declared.Reach.{Reach}
 use Rattle.sq_slices.specs.Grids.{IsGrid}
-use Rattle.sq_slices.specs.Reaches.{reach_at}
+use Rattle.sq_slices.specs.Reaches.{reach_numbered}
 
 pub record IsLow (most : ℕ) (r : Reach) : Type 0 where
   pub grid : IsGrid r.cuts
@@ -12,4 +12,4 @@ pub record IsLow (most : ℕ) (r : Reach) : Type 0 where
   pub ahead : r.ahead ≤ most
 
 abbrev pub AreLow : ℕ → List (Option Reach) → Type 0
-AreLow most reaches = (i : ℕ) → IfSome (reach_at reaches i) (IsLow most)
+AreLow most reaches = (i : ℕ) → IfSome (reach_numbered reaches i) (IsLow most)

@@ -1,5 +1,5 @@
 -- Where slices may end, and how far it is to the next such tick.
---     is_cut g t           a slice may end at a tick
+--     may_end g t          a slice may end at a tick
 --     gap g t              how many ticks it is from a tick to the first cut from there on
 --     pad g h              the most ticks that it is from a cut of g to the first cut of h from there on
 --     ahead_from g more r  how far ahead of a cut of g the sources are needed, where a stream of reach r is needed so far ahead
@@ -12,8 +12,8 @@ pub record IsGrid (g : Grid) : Type 0 where
   pub moves : 1 ≤ g.step
   pub begins : g.phase < g.step
 
-abbrev pub is_cut : Grid → ℕ → Bool
-is_cut g t = t % g.step == g.phase
+abbrev pub may_end : Grid → ℕ → Bool
+may_end g t = t % g.step == g.phase
 
 abbrev pub gap : Grid → ℕ → ℕ
 gap g t = (g.phase + g.step - t % g.step) % g.step

@@ -14,9 +14,9 @@ use Rattle.sq_net.specs.declared.Body.TheVariants.{BSort}
 use Rattle.sq_model.specs.FullStreams.{full_stream}
 use Rattle.sq_shard.specs.Laws.{NoneLate}
 use Rattle.sq_slices.specs.declared.Reach.{Reach}
-use Rattle.sq_slices.specs.Grids.{is_cut}
+use Rattle.sq_slices.specs.Grids.{may_end}
 use Rattle.sq_slices.specs.Slices.{AgreeIn, SourcesAgree, CameWithin, slice}
-use Rattle.sq_slices.specs.Reaches.{earlier, is_uncut, reaches_of, union_reach}
+use Rattle.sq_slices.specs.Reaches.{earlier_reach, is_uncut, reaches_of, union_reach}
 
 -- ---- what is asked of BSorts
 
@@ -59,7 +59,7 @@ answers_behind n s a (p ∷ ps) = slice a p.end (full_stream n p.sources s) ++ a
 abbrev pub AnswersSlices : Network → Option ℕ → ℕ → Reach → Type 0
 AnswersSlices n delay s r =
     (sources part : List (List Tuple)) (lo hi : ℕ) → SourcesAgree lo hi sources part → AreInTime n delay sources → AreInTime n delay part
-    → (a b : ℕ) → is_cut r.cuts b ≡ true → lo ≤ a - r.back → b + r.ahead ≤ hi → AgreeIn a b (full_stream n sources s) (full_stream n part s)
+    → (a b : ℕ) → may_end r.cuts b ≡ true → lo ≤ a - r.back → b + r.ahead ≤ hi → AgreeIn a b (full_stream n sources s) (full_stream n part s)
 
 abbrev pub SlicesAnswerSlices : Network → Option ℕ → (ℕ → Option Reach) → Type 0
 SlicesAnswerSlices n delay reaches = (s : ℕ) (r : Reach) → reaches s ≡ Some r → AnswersSlices n delay s r
@@ -68,7 +68,7 @@ SlicesAnswerSlices n delay reaches = (s : ℕ) (r : Reach) → reaches s ≡ Som
 abbrev pub AreSlices : Network → Option ℕ → Reach → List (List Tuple) → ℕ → List Slice → Type 0
 AreSlices n delay r sources a [] = ⊤
 AreSlices n delay r sources a (p ∷ ps) =
-    (a ≤ p.end) × (is_cut r.cuts p.end ≡ true) × SourcesAgree (a - r.back) (p.end + r.ahead) sources p.sources × AreInTime n delay p.sources
+    (a ≤ p.end) × (may_end r.cuts p.end ≡ true) × SourcesAgree (a - r.back) (p.end + r.ahead) sources p.sources × AreInTime n delay p.sources
     × AreSlices n delay r sources p.end ps
 
 -- the slices of all ticks, one behind the other, answer what the whole does, tuple by tuple. A tick is less than 2^40
@@ -88,7 +88,7 @@ SlicesMakeThemAll n delay reaches =
 
 -- the reach of all streams of a network, and so many ticks before it
 abbrev pub run_reach : Network → ℕ → Option Reach
-run_reach n delay = option_map (earlier delay) (union_reach (reaches_of n (Some delay)))
+run_reach n delay = option_map (earlier_reach delay) (union_reach (reaches_of n (Some delay)))
 
 -- slices that reach so far tell by themselves: where each of them is in time, they make the whole
 abbrev pub SlicesMakeTheRun : Network → ℕ → Type 0

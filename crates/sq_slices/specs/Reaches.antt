@@ -24,20 +24,20 @@ abbrev pub own_reach : Reach
 own_reach = record { back = 0; ahead = 0; cuts = record { step = 1; phase = 0 } }
 
 -- a stream that is needed from so many ticks earlier on
-abbrev pub earlier : ℕ → Reach → Reach
-earlier before r = record { back = before + r.back; ahead = r.ahead; cuts = r.cuts }
+abbrev pub earlier_reach : ℕ → Reach → Reach
+earlier_reach before r = record { back = before + r.back; ahead = r.ahead; cuts = r.cuts }
 
 -- a stream that is needed up to so many ticks later
-abbrev pub later : ℕ → Reach → Reach
-later more r = record { back = r.back; ahead = ahead_from r.cuts more r; cuts = r.cuts }
+abbrev pub later_reach : ℕ → Reach → Reach
+later_reach more r = record { back = r.back; ahead = ahead_from r.cuts more r; cuts = r.cuts }
 
 -- two streams, cut as the first is
-abbrev pub beside : Reach → Reach → Reach
-beside r q = record { back = max r.back q.back; ahead = max r.ahead (ahead_from r.cuts 0 q); cuts = r.cuts }
+abbrev pub beside_reach : Reach → Reach → Reach
+beside_reach r q = record { back = max r.back q.back; ahead = max r.ahead (ahead_from r.cuts 0 q); cuts = r.cuts }
 
 -- two streams, cut as that with the greater step is
-abbrev pub both : Reach → Reach → Reach
-both r q = if nat_le q.cuts.step r.cuts.step then beside r q else beside q r
+abbrev pub both_reaches : Reach → Reach → Reach
+both_reaches r q = if nat_le q.cuts.step r.cuts.step then beside_reach r q else beside_reach q r
 
 abbrev pub starts : WindowSpec → Grid
 starts w = record { step = w.advance; phase = w.phase }
@@ -49,7 +49,7 @@ windowed w r = record { back = r.back; ahead = ahead_from (starts w) (w.size - w
 abbrev pub both_if : Option Reach → Option Reach → Option Reach
 both_if None q = None
 both_if (Some r) None = None
-both_if (Some r) (Some q) = Some (both r q)
+both_if (Some r) (Some q) = Some (both_reaches r q)
 
 abbrev pub union_reach : List (Option Reach) → Option Reach
 union_reach [] = Some own_reach
@@ -57,21 +57,21 @@ union_reach (r ∷ rs) = both_if r (union_reach rs)
 
 abbrev pub sorted_reach : Option ℕ → Option Reach → Option Reach
 sorted_reach None r = None
-sorted_reach (Some delay) r = option_map (later delay) r
+sorted_reach (Some delay) r = option_map (later_reach delay) r
 
-abbrev pub reach_at : List (Option Reach) → ℕ → Option Reach
-reach_at reaches i = slice_index_or reaches i None
+abbrev pub reach_numbered : List (Option Reach) → ℕ → Option Reach
+reach_numbered reaches i = slice_index_or reaches i None
 
 -- a pair is of the time of the later tuple, and the other came at most the size before it; a left tuple of a Resample is
 -- answered by right ones at both sides of it
 abbrev pub box_reach : Option ℕ → Body → List (Option Reach) → Option Reach
-box_reach delay (Filter preds) ins = reach_at ins 0
-box_reach delay (Map exprs) ins = reach_at ins 0
+box_reach delay (Filter preds) ins = reach_numbered ins 0
+box_reach delay (Map exprs) ins = reach_numbered ins 0
 box_reach delay Union ins = union_reach ins
-box_reach delay (BSort by slack) ins = sorted_reach delay (reach_at ins 0)
-box_reach delay (Aggregate funcs group window) ins = option_map (windowed window) (reach_at ins 0)
-box_reach delay (Join size on) ins = option_map (earlier size) (both_if (reach_at ins 0) (reach_at ins 1))
-box_reach delay (Resample size funcs) ins = both_if (reach_at ins 0) (option_map (λ r. earlier size (later size r)) (reach_at ins 1))
+box_reach delay (BSort by slack) ins = sorted_reach delay (reach_numbered ins 0)
+box_reach delay (Aggregate funcs group window) ins = option_map (windowed window) (reach_numbered ins 0)
+box_reach delay (Join size on) ins = option_map (earlier_reach size) (both_if (reach_numbered ins 0) (reach_numbered ins 1))
+box_reach delay (Resample size funcs) ins = both_if (reach_numbered ins 0) (option_map (λ r. earlier_reach size (later_reach size r)) (reach_numbered ins 1))
 
 abbrev pub box_reach_at : Option ℕ → Option Node → List (Option Reach) → Option Reach
 box_reach_at delay None ins = None
@@ -101,7 +101,7 @@ reaches_of n delay = map (reach_of n delay) (numbers_to (length (producers_of n.
 
 -- those of the outputs, and the reach that serves them all
 abbrev pub output_reaches_of : Network → Option ℕ → List (Option Reach)
-output_reaches_of n delay = map (reach_at (reaches_of n delay)) n.wires.outputs
+output_reaches_of n delay = map (reach_numbered (reaches_of n delay)) n.wires.outputs
 
 abbrev pub outputs_reach : Network → Option ℕ → Option Reach
 outputs_reach n delay = union_reach (output_reaches_of n delay)
@@ -113,4 +113,4 @@ is_uncut n delay reaches at =
 
 -- the least box, by its number, that is the reason
 abbrev pub first_uncut : Network → Option ℕ → Option ℕ
-first_uncut n delay = find (is_uncut n delay (reach_at (reaches_of n delay))) (numbers_to (length n.boxes))
+first_uncut n delay = find (is_uncut n delay (reach_numbered (reaches_of n delay))) (numbers_to (length n.boxes))

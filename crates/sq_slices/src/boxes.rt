@@ -4,7 +4,7 @@ ghost use Rattle.std.specs.Option.{IfSome, option_map};
 ghost use Rattle.sq_aggfn.specs.Windows.{IsWindow};
 ghost use Rattle.sq_net.specs.SoundNetworks.{HasWindow, body_within};
 ghost use Rattle.sq_slices.specs.Bounds.{AreLow, IsLow};
-ghost use Rattle.sq_slices.specs.Reaches.{beside, both, both_if, box_reach, earlier, later, own_reach, reach_at, sorted_reach, starts, union_reach, windowed};
+ghost use Rattle.sq_slices.specs.Reaches.{beside_reach, both_reaches, both_if, box_reach, earlier_reach, later_reach, own_reach, reach_numbered, sorted_reach, starts, union_reach, windowed};
 
 use crate::cuts::ahead_from;
 use crate::{Grid, Reach};
@@ -21,10 +21,10 @@ pub(crate) fn own_reach() -> Reach
     }
 }
 
-fn earlier(before: u64, r: Reach) -> Reach
+fn earlier_reach(before: u64, r: Reach) -> Reach
     requires before { before ≤ 2 ^ 40 }
     requires low { IsLow (2 ^ 60) r }
-    ensures { result ≡ earlier before r }
+    ensures { result ≡ earlier_reach before r }
 {
     Reach {
         back: before + r.back,
@@ -33,10 +33,10 @@ fn earlier(before: u64, r: Reach) -> Reach
     }
 }
 
-fn later(more: u64, r: Reach) -> Reach
+fn later_reach(more: u64, r: Reach) -> Reach
     requires more { more ≤ 2 ^ 40 }
     requires low { IsLow (2 ^ 60) r }
-    ensures { result ≡ later more r }
+    ensures { result ≡ later_reach more r }
 {
     Reach {
         back: r.back,
@@ -45,10 +45,10 @@ fn later(more: u64, r: Reach) -> Reach
     }
 }
 
-fn beside(r: Reach, q: Reach) -> Reach
+fn beside_reach(r: Reach, q: Reach) -> Reach
     requires first { IsLow (2 ^ 60) r }
     requires second { IsLow (2 ^ 60) q }
-    ensures { result ≡ beside r q }
+    ensures { result ≡ beside_reach r q }
 {
     Reach {
         back: r.back.max(q.back),
@@ -57,15 +57,15 @@ fn beside(r: Reach, q: Reach) -> Reach
     }
 }
 
-fn both(r: Reach, q: Reach) -> Reach
+fn both_reaches(r: Reach, q: Reach) -> Reach
     requires first { IsLow (2 ^ 60) r }
     requires second { IsLow (2 ^ 60) q }
-    ensures { result ≡ both r q }
+    ensures { result ≡ both_reaches r q }
 {
     if q.cuts.step <= r.cuts.step {
-        beside(r, q)
+        beside_reach(r, q)
     } else {
-        beside(q, r)
+        beside_reach(q, r)
     }
 }
 
@@ -75,7 +75,7 @@ fn both_if(r: Option<Reach>, q: Option<Reach>) -> Option<Reach>
     ensures { result ≡ both_if r q }
 {
     match (r, q) {
-        (Some(r), Some(q)) => Some(both(r, q)),
+        (Some(r), Some(q)) => Some(both_reaches(r, q)),
         _ => None,
     }
 }
@@ -96,8 +96,8 @@ fn windowed(w: WindowSpec, r: Reach) -> Reach
     }
 }
 
-pub(crate) fn reach_at(reaches: &[Option<Reach>], number: usize) -> Option<Reach>
-    ensures { result ≡ reach_at reaches.now number }
+pub(crate) fn reach_numbered(reaches: &[Option<Reach>], number: usize) -> Option<Reach>
+    ensures { result ≡ reach_numbered reaches.now number }
 {
     match reaches.get(number) {
         Some(reach) => *reach,
@@ -115,7 +115,7 @@ pub(crate) fn union_reach(reaches: &[Option<Reach>]) -> Option<Reach>
     let mut place = reaches.len();
     while place > 0 {
         place -= 1;
-        all = both_if(reach_at(reaches, place), all);
+        all = both_if(reach_numbered(reaches, place), all);
     }
     all
 }
@@ -134,10 +134,10 @@ fn windowed_if(w: WindowSpec, r: Option<Reach>) -> Option<Reach>
 pub(crate) fn earlier_if(before: u64, r: Option<Reach>) -> Option<Reach>
     requires before { before ≤ 2 ^ 40 }
     requires low { IfSome r (IsLow (2 ^ 60)) }
-    ensures { result ≡ option_map (earlier before) r }
+    ensures { result ≡ option_map (earlier_reach before) r }
 {
     match r {
-        Some(r) => Some(earlier(before, r)),
+        Some(r) => Some(earlier_reach(before, r)),
         None => None,
     }
 }
@@ -145,10 +145,10 @@ pub(crate) fn earlier_if(before: u64, r: Option<Reach>) -> Option<Reach>
 fn later_if(more: u64, r: Option<Reach>) -> Option<Reach>
     requires more { more ≤ 2 ^ 40 }
     requires low { IfSome r (IsLow (2 ^ 60)) }
-    ensures { result ≡ option_map (later more) r }
+    ensures { result ≡ option_map (later_reach more) r }
 {
     match r {
-        Some(r) => Some(later(more, r)),
+        Some(r) => Some(later_reach(more, r)),
         None => None,
     }
 }
@@ -168,7 +168,7 @@ fn sampled_reach(size: u64, left: Option<Reach>, right: Option<Reach>) -> Option
     requires size { size ≤ 2 ^ 32 }
     requires left { IfSome left (IsLow (2 ^ 59)) }
     requires right { IfSome right (IsLow (2 ^ 59)) }
-    ensures { result ≡ both_if left (option_map (λ r. earlier size (later size r)) right) }
+    ensures { result ≡ both_if left (option_map (λ r. earlier_reach size (later_reach size r)) right) }
 {
     both_if(left, earlier_if(size, later_if(size, right)))
 }
@@ -177,7 +177,7 @@ fn joined_reach(size: u64, left: Option<Reach>, right: Option<Reach>) -> Option<
     requires size { size ≤ 2 ^ 32 }
     requires left { IfSome left (IsLow (2 ^ 59)) }
     requires right { IfSome right (IsLow (2 ^ 59)) }
-    ensures { result ≡ option_map (earlier size) (both_if left right) }
+    ensures { result ≡ option_map (earlier_reach size) (both_if left right) }
 {
     earlier_if(size, both_if(left, right))
 }
@@ -191,13 +191,13 @@ pub(crate) fn box_reach(delay: Option<u64>, body: &Body, reaches: &[Option<Reach
     requires low { AreLow (2 ^ 59) reaches.now }
     ensures { result ≡ box_reach delay body.now reaches.now }
 {
-    let first = reach_at(reaches, 0);
+    let first = reach_numbered(reaches, 0);
     match body {
         Body::Filter { .. } | Body::Map { .. } => first,
         Body::Union => union_reach(reaches),
         Body::BSort { .. } => sorted_reach(delay, first),
         Body::Aggregate { window, .. } => windowed_if(*window, first),
-        Body::Join { size, .. } => joined_reach(*size, first, reach_at(reaches, 1)),
-        Body::Resample { size, .. } => sampled_reach(*size, first, reach_at(reaches, 1)),
+        Body::Join { size, .. } => joined_reach(*size, first, reach_numbered(reaches, 1)),
+        Body::Resample { size, .. } => sampled_reach(*size, first, reach_numbered(reaches, 1)),
     }
 }

@@ -5,7 +5,7 @@ ghost use Rattle.sq_points.specs.Limits.{KeepsDropLimits};
 ghost use Rattle.sq_model.specs.Shedding.{Replay};
 ghost use Rattle.sq_slices.specs.Drops.{SlicesDropTheSame, SlicesPlanTheSame, SlicesShowTheRun, SlicesShowTheSame};
 ghost use Rattle.sq_slices.specs.Laws.{SlicesAnswerSlices, SlicesMakeThemAll, SlicesMakeTheRun, SlicesMakeTheWhole, UncutAreNamed};
-ghost use Rattle.sq_slices.specs.Reaches.{FollowsReaches, reach_at, reaches_of};
+ghost use Rattle.sq_slices.specs.Reaches.{FollowsReaches, reach_numbered, reaches_of};
 ghost use Rattle.sq_slices.specs.declared.Reach.{Reach};
 
 use sq_net::Network;
@@ -13,7 +13,7 @@ use sq_net::Network;
 /// What `reaches` answers follows the boxes.
 pub fn reaches_follow(n: &Network)
     requires { IsSound n.now }
-    ensures { (delay : Option ℕ) → FollowsReaches n.now delay (reach_at (reaches_of n.now delay)) }
+    ensures { (delay : Option ℕ) → FollowsReaches n.now delay (reach_numbered (reaches_of n.now delay)) }
 {
     let _n = n;
 }

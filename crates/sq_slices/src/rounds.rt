@@ -7,22 +7,14 @@ ghost use Rattle.sq_graph.specs.Wires.{inputs_of, producer_of};
 ghost use Rattle.sq_net.specs.SoundNetworks.{IsSound};
 ghost use Rattle.sq_slices.specs.Bounds.{AreLow};
 ghost use Rattle.sq_slices.specs.Laws.{run_reach};
-ghost use Rattle.sq_slices.specs.Reaches.{box_reach_at, first_uncut, is_uncut, output_reaches_of, outputs_reach, reach_at, reach_given, reaches_of};
+ghost use Rattle.sq_slices.specs.Reaches.{box_reach_at, first_uncut, is_uncut, output_reaches_of, outputs_reach, reach_numbered, reach_given, reaches_of};
 
 use crate::Reach;
-use crate::boxes::{box_reach, earlier_if, own_reach, reach_at, union_reach};
-use sq_graph::{Producer, Wiring, given_by, stream_of};
+use crate::boxes::{box_reach, earlier_if, own_reach, reach_numbered, union_reach};
+use sq_graph::{Producer, given_by, stream_of};
 use sq_net::Network;
+use sq_shard::inputs_of;
 use std::alloc::{AllocError, Global};
-
-fn inputs_of(w: &Wiring, at: u32) -> &[u32]
-    ensures { result.now ≡ inputs_of w.now at }
-{
-    match w.boxes.as_slice().get(at as usize) {
-        None => &[],
-        Some(b) => b.inputs.as_slice(),
-    }
-}
 
 // The reaches of some streams, where these are those of all.
 fn taken_reaches(
@@ -30,11 +22,11 @@ fn taken_reaches(
     reaches: &[Option<Reach>],
     inputs: &[u32],
 ) -> Result<Vec<Option<Reach>>, AllocError>
-    ensures { IfOk result (λ v. v.items ≡ map (reach_at reaches.now) inputs.now) }
+    ensures { IfOk result (λ v. v.items ≡ map (reach_numbered reaches.now) inputs.now) }
 {
     let mut taken = Vec::new(alloc);
     for stream in inputs {
-        taken.push(reach_at(reaches, *stream as usize))?;
+        taken.push(reach_numbered(reaches, *stream as usize))?;
     }
     Ok(taken)
 }
@@ -49,7 +41,7 @@ fn port_reach(
     requires sound { IsSound n.now }
     requires delay { IfSome delay (λ d. d < 2 ^ 40) }
     requires low { AreLow (2 ^ 59) reaches.now }
-    ensures { IfOk result (λ r. r ≡ box_reach_at delay (slice_get n.now.boxes at) (map (reach_at reaches.now) (inputs_of n.now.wires at))) }
+    ensures { IfOk result (λ r. r ≡ box_reach_at delay (slice_get n.now.boxes at) (map (reach_numbered reaches.now) (inputs_of n.now.wires at))) }
 {
     match n.boxes.as_slice().get(at as usize) {
         None => Ok(None),
@@ -71,7 +63,7 @@ fn reach_given(
     requires sound { IsSound n.now }
     requires delay { IfSome delay (λ d. d < 2 ^ 40) }
     requires low { AreLow (2 ^ 59) reaches.now }
-    ensures { IfOk result (λ r. r ≡ reach_given n.now delay (reach_at reaches.now) (producer_of n.now.wires stream)) }
+    ensures { IfOk result (λ r. r ≡ reach_given n.now delay (reach_numbered reaches.now) (producer_of n.now.wires stream)) }
 {
     match given_by(&n.wires, stream) {
         None => Ok(None),
@@ -91,7 +83,7 @@ fn next_reaches(
     requires sound { IsSound n.now }
     requires delay { IfSome delay (λ d. d < 2 ^ 40) }
     requires low { AreLow (2 ^ 59) reaches.now }
-    ensures { IfOk result (λ v. v.items ≡ map (λ s. reach_given n.now delay (reach_at reaches.now) (producer_of n.now.wires s)) (numbers_to streams)) }
+    ensures { IfOk result (λ v. v.items ≡ map (λ s. reach_given n.now delay (reach_numbered reaches.now) (producer_of n.now.wires s)) (numbers_to streams)) }
 {
     let mut next = Vec::new(alloc);
     for stream in 0..streams {
@@ -169,11 +161,11 @@ pub fn run_reach(alloc: Global, n: &Network, delay: u64) -> Result<Option<Reach>
 }
 
 fn are_cut(reaches: &[Option<Reach>], inputs: &[u32]) -> bool
-    ensures { result ≡ list_all (λ s. is_some (reach_at reaches.now s)) inputs.now }
+    ensures { result ≡ list_all (λ s. is_some (reach_numbered reaches.now s)) inputs.now }
 {
     inputs
         .iter()
-        .all(|stream| reach_at(reaches, *stream as usize).is_some())
+        .all(|stream| reach_numbered(reaches, *stream as usize).is_some())
 }
 
 fn is_uncut(
@@ -186,7 +178,7 @@ fn is_uncut(
     requires sound { IsSound n.now }
     requires delay { IfSome delay (λ d. d < 2 ^ 40) }
     requires low { AreLow (2 ^ 59) reaches.now }
-    ensures { IfOk result (λ b. b ≡ is_uncut n.now delay (reach_at reaches.now) at) }
+    ensures { IfOk result (λ b. b ≡ is_uncut n.now delay (reach_numbered reaches.now) at) }
 {
     if !are_cut(reaches, inputs_of(&n.wires, at)) {
         return Ok(false);
@@ -204,7 +196,7 @@ fn uncut_among(
     requires sound { IsSound n.now }
     requires delay { IfSome delay (λ d. d < 2 ^ 40) }
     requires low { AreLow (2 ^ 59) reaches.now }
-    ensures { IfOk result (λ o. o ≡ find (is_uncut n.now delay (reach_at reaches.now)) (numbers_to (length n.now.boxes))) }
+    ensures { IfOk result (λ o. o ≡ find (is_uncut n.now delay (reach_numbered reaches.now)) (numbers_to (length n.now.boxes))) }
 {
     for at in 0..n.boxes.as_slice().len() as u32 {
         if is_uncut(alloc, n, delay, reaches, at)? {

@@ -4,7 +4,7 @@ use Rattle.sq_net.specs.declared.NetErr.TheVariants as net
 use Rattle.sq_teller.specs.declared.Status.{Status}
 use Rattle.sq_teller.specs.declared.Status.TheVariants as status
 use Rattle.sq_teller.specs.Replies.{Reply, Says, Refuses, IsRefused}
-use Rattle.sq_teller.specs.Ends.{EndsAsked, EndsBy, EndsUnasked, IsTold, Surroundings}
+use Rattle.sq_teller.specs.Ends.{EndsAsked, EndsBy, EndsUnasked, IsEndingTold, Surroundings}
 
 memory_ends : (answer : Reply) (w : Surroundings) (result : Status) → result ≡ status.Memory → w.out_now ≡ w.out_before → EndsBy answer w result
 memory_ends (Says text lost) w result e same = inr (e, same)
@@ -23,13 +23,13 @@ untouched (Says text b) w result ok lost sink (inl (inr (e, rose, wrote))) = abs
 untouched (Says text b) w result ok lost sink (inr (e, same)) = same
 untouched (Refuses broken) w result ok lost sink (e, same) = same
 
-pub asked_told : (net : List ℕ) (reply : List ℕ → Reply) (w : Surroundings) (result told : Status) → IsTold result told → EndsAsked net reply w result → EndsAsked net reply w told
+pub asked_told : (net : List ℕ) (reply : List ℕ → Reply) (w : Surroundings) (result told : Status) → IsEndingTold result told → EndsAsked net reply w result → EndsAsked net reply w told
 asked_told net reply w result told (inl e) ends = rw e ends
 asked_told net reply w result told (inr (m, ok, lost, sink)) (inl (unread, read, same)) = inl (inl m, read, same)
 asked_told net reply w result told (inr (m, ok, lost, sink)) (inr (bytes, read, faultless, ends)) =
     inr (bytes, read, faultless, memory_ends (reply bytes) w told m (untouched (reply bytes) w result ok lost sink ends))
 
-pub unasked_told : (w : Surroundings) (result told : Status) → IsTold result told → EndsUnasked w result → EndsUnasked w told
+pub unasked_told : (w : Surroundings) (result told : Status) → IsEndingTold result told → EndsUnasked w result → EndsUnasked w told
 unasked_told w result told (inl e) ends = rw e ends
 unasked_told w result told (inr (m, ok, lost, sink)) (s, uncalled, same) = (inr m, uncalled, same)
 
@@ -37,6 +37,6 @@ unasked_told w result told (inr (m, ok, lost, sink)) (s, uncalled, same) = (inr 
 pub memory_unasked : (net : List ℕ) (reply : List ℕ → Reply) (w : Surroundings) (result : Status) → result ≡ status.Memory → EndsUnasked w result → EndsAsked net reply w result
 memory_unasked net reply w result m (s, uncalled, same) = inl (inl m, uncalled.read, same)
 
-pub told_no_memory : (result told : Status) → IsTold result told → result ≢ status.BadNetwork net.Memory → told ≢ status.BadNetwork net.Memory
+pub told_no_memory : (result told : Status) → IsEndingTold result told → result ≢ status.BadNetwork net.Memory → told ≢ status.BadNetwork net.Memory
 told_no_memory result told (inl e) not = rw e not
 told_no_memory result told (inr (m, ok, lost, sink)) not = λ e. cc

@@ -24,5 +24,5 @@ box_at n None = None
 box_at n (Some at) = slice_get n.boxes at
 
 -- the line of the box of this number, or nothing where there is none
-abbrev pub box_line : List ℕ → Network → Option ℕ → List ℕ
-box_line mark n at = box_text mark (box_at n at)
+abbrev pub named_box : List ℕ → Network → Option ℕ → List ℕ
+named_box mark n at = box_text mark (box_at n at)

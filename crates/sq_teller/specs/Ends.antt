@@ -9,7 +9,7 @@ use Rattle.sq_teller.specs.declared.Program.{Program}
 use Rattle.sq_teller.specs.declared.Status.{Status}
 use Rattle.sq_teller.specs.declared.Status.TheVariants as status
 use Rattle.sq_teller.specs.Replies.{Reply, Says, Refuses, lost_status}
-use Rattle.sq_teller.specs.Messages.{message_of}
+use Rattle.sq_teller.specs.Messages.{ending_message}
 
 -- P of the files, where they are told
 abbrev pub WhereFilesTold : Option Files → (Files → Type 0) → Type 0
@@ -80,9 +80,9 @@ EndsUnasked w result = ((result ≡ status.Usage) ⊎ (result ≡ status.Memory)
 -- ---- what is told
 
 -- the status, or that memory ran out where there was none for the message; that the output failed takes none
-abbrev pub IsTold : Status → Status → Type 0
-IsTold result told = (told ≡ result) ⊎ ((told ≡ status.Memory) × (result ≢ status.Ok) × (result ≢ status.Lost) × (result ≢ status.SinkFault))
+abbrev pub IsEndingTold : Status → Status → Type 0
+IsEndingTold result told = (told ≡ result) ⊎ ((told ≡ status.Memory) × (result ≢ status.Ok) × (result ≢ status.Lost) × (result ≢ status.SinkFault))
 
 -- the message: whole, or a part of it where the sink for messages has failed
-abbrev pub TellsStatus : Program → ℕ → ℕ → Status → List ℕ → Type 0
-TellsStatus p before now result text = (text ≡ message_of p result) ⊎ (Rose before now × IsPrefixOf text (message_of p result))
+abbrev pub TellsEnding : Program → ℕ → ℕ → Status → List ℕ → Type 0
+TellsEnding p before now result text = (text ≡ ending_message p result) ⊎ (Rose before now × IsPrefixOf text (ending_message p result))

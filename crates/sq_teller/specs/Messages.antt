@@ -23,25 +23,25 @@ key_why_text why.Twice = codes "Twice"
 key_why_text why.NoField = codes "NoField"
 
 -- the line of a status; Ok and Lost have none
-abbrev pub message_of : Program → Status → List ℕ
-message_of p status.Ok = []
-message_of p status.Lost = []
-message_of p status.Usage = name_text p ++ (codes ": usage: " ++ (usage_text p ++ codes "\n"))
-message_of p (status.BadNetwork e) = name_text p ++ (codes ": network: " ++ (refusal_text e ++ codes "\n"))
-message_of p (status.FolderFault name) = name_text p ++ (codes ": cannot read " ++ (name ++ codes "\n"))
-message_of p status.SinkFault = name_text p ++ codes ": output failed\n"
-message_of p (status.TooLong name) = name_text p ++ (codes ": file too long: " ++ (name ++ codes "\n"))
-message_of p status.Memory = name_text p ++ codes ": out of memory\n"
-message_of p (status.BadKey key w) = name_text p ++ (codes ": key " ++ (decimal key ++ (codes ": " ++ (key_why_text w ++ codes "\n"))))
+abbrev pub ending_message : Program → Status → List ℕ
+ending_message p status.Ok = []
+ending_message p status.Lost = []
+ending_message p status.Usage = name_text p ++ (codes ": usage: " ++ (usage_text p ++ codes "\n"))
+ending_message p (status.BadNetwork e) = name_text p ++ (codes ": network: " ++ (refusal_text e ++ codes "\n"))
+ending_message p (status.FolderFault name) = name_text p ++ (codes ": cannot read " ++ (name ++ codes "\n"))
+ending_message p status.SinkFault = name_text p ++ codes ": output failed\n"
+ending_message p (status.TooLong name) = name_text p ++ (codes ": file too long: " ++ (name ++ codes "\n"))
+ending_message p status.Memory = name_text p ++ codes ": out of memory\n"
+ending_message p (status.BadKey key w) = name_text p ++ (codes ": key " ++ (decimal key ++ (codes ": " ++ (key_why_text w ++ codes "\n"))))
 
 -- the number with which a program ends
-abbrev pub code_of : Status → ℕ
-code_of status.Ok = 0
-code_of status.Lost = 1
-code_of status.Usage = 2
-code_of (status.BadNetwork e) = 3
-code_of (status.FolderFault name) = 7
-code_of status.SinkFault = 10
-code_of (status.TooLong name) = 11
-code_of status.Memory = 12
-code_of (status.BadKey key w) = 18
+abbrev pub ending_code : Status → ℕ
+ending_code status.Ok = 0
+ending_code status.Lost = 1
+ending_code status.Usage = 2
+ending_code (status.BadNetwork e) = 3
+ending_code (status.FolderFault name) = 7
+ending_code status.SinkFault = 10
+ending_code (status.TooLong name) = 11
+ending_code status.Memory = 12
+ending_code (status.BadKey key w) = 18

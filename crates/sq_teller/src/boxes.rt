@@ -1,6 +1,6 @@
 // The line that names a box.
 ghost use Rattle.std.specs.Prelude.{◌≡◌, ◌++◌, OnOk, Some};
-ghost use Rattle.sq_teller.specs.Boxes.{box_line, box_text, kind_text};
+ghost use Rattle.sq_teller.specs.Boxes.{named_box, box_text, kind_text};
 
 use sq_net::{Body, Network, Node};
 use std::alloc::AllocError;
@@ -38,7 +38,7 @@ pub fn put_box_line(
     at: Option<u32>,
     text: &mut Vec<u8>,
 ) -> Result<(), AllocError>
-    ensures { OnOk result (text.new.items ≡ text.old.items ++ box_line mark.now n.now at) }
+    ensures { OnOk result (text.new.items ≡ text.old.items ++ named_box mark.now n.now at) }
 {
     let Some(at) = at else {
         return Ok(());

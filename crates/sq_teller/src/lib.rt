@@ -7,7 +7,7 @@
 #![tactic(auto)]
 
 ghost use Rattle.std.specs.Prelude.{◌≡◌};
-ghost use Rattle.sq_teller.specs.Messages.{code_of};
+ghost use Rattle.sq_teller.specs.Messages.{ending_code};
 
 mod boxes;
 mod messages;
@@ -74,7 +74,7 @@ pub enum Status {
 impl Status {
     /// The status with which the program ends.
     pub fn code(&self) -> u8
-        ensures { result ≡ code_of self.now }
+        ensures { result ≡ ending_code self.now }
     {
         match self {
             Status::Ok => 0,

@@ -3,8 +3,8 @@ ghost use Rattle.std.specs.Prelude.{◌≡◌, ◌⊎◌, ◌≤◌, IfOk, strin
 ghost use Rattle.sq_outside.specs.Faults.{Rose};
 ghost use Rattle.sq_outside.specs.Sinks.{AppendsSuch};
 ghost use Rattle.sq_words.specs.Lists.{IsPrefixOf};
-ghost use Rattle.sq_teller.specs.Ends.{IsTold, TellsStatus};
-ghost use Rattle.sq_teller.specs.Messages.{key_why_text, message_of, name_text, usage_text};
+ghost use Rattle.sq_teller.specs.Ends.{IsEndingTold, TellsEnding};
+ghost use Rattle.sq_teller.specs.Messages.{key_why_text, ending_message, name_text, usage_text};
 
 use crate::{KeyWhy, Program, Status};
 use sq_net::NetErr;
@@ -42,7 +42,7 @@ fn key_why_text(why: KeyWhy) -> &'static str
 
 // The lines that take no memory.
 fn failed_line(program: Program) -> &'static str
-    ensures { result.now ≡ message_of program Status.SinkFault }
+    ensures { result.now ≡ ending_message program Status.SinkFault }
 {
     match program {
         Program::Keys => "aurora_keys: output failed\n",
@@ -51,7 +51,7 @@ fn failed_line(program: Program) -> &'static str
 }
 
 fn memory_line(program: Program) -> &'static str
-    ensures { result.now ≡ message_of program Status.Memory }
+    ensures { result.now ≡ ending_message program Status.Memory }
 {
     match program {
         Program::Keys => "aurora_keys: out of memory\n",
@@ -60,7 +60,7 @@ fn memory_line(program: Program) -> &'static str
 }
 
 fn network_message(alloc: Global, program: Program, e: NetErr) -> Result<String, AllocError>
-    ensures { IfOk result (λ text. string_bytes text ≡ message_of program (Status.BadNetwork e)) }
+    ensures { IfOk result (λ text. string_bytes text ≡ ending_message program (Status.BadNetwork e)) }
 {
     let name = name_text(program);
     let refusal = refusal_text(alloc, e)?;
@@ -69,8 +69,8 @@ fn network_message(alloc: Global, program: Program, e: NetErr) -> Result<String,
 }
 
 // The line of a status.
-fn message_of(alloc: Global, program: Program, status: &Status) -> Result<String, AllocError>
-    ensures { IfOk result (λ text. string_bytes text ≡ message_of program status.now) }
+fn ending_message(alloc: Global, program: Program, status: &Status) -> Result<String, AllocError>
+    ensures { IfOk result (λ text. string_bytes text ≡ ending_message program status.now) }
 {
     let name = name_text(program);
     match status {
@@ -108,8 +108,8 @@ fn say<E: Sink>(err: &mut E, text: &[u8])
 /// Tells how a call ended, and how it ends with that: Ok and Lost have no line, and where there is no memory for the line, memory
 /// ran out.
 pub fn told<E: Sink>(alloc: Global, program: Program, status: Status, err: &mut E) -> Status
-    ensures status { IsTold status result }
-    ensures told { AppendsSuch (E.written err.old) (E.written err.new) (TellsStatus program (E.faults err.old) (E.faults err.new) result) }
+    ensures status { IsEndingTold status result }
+    ensures told { AppendsSuch (E.written err.old) (E.written err.new) (TellsEnding program (E.faults err.old) (E.faults err.new) result) }
     ensures later { E.faults err.old ≤ E.faults err.new }
 {
     match status {
@@ -119,7 +119,7 @@ pub fn told<E: Sink>(alloc: Global, program: Program, status: Status, err: &mut 
             say(err, failed_line(program).as_bytes());
             Status::SinkFault
         }
-        status => match message_of(alloc, program, &status) {
+        status => match ending_message(alloc, program, &status) {
             Ok(text) => {
                 say(err, text.as_str().as_bytes());
                 status

@@ -8,7 +8,7 @@ use Rattle.sq_model.proofs.NumberLemmas.{stream_at_within}
 use Rattle.sq_model.proofs.PlacedLemmas.{placed_of}
 use Rattle.sq_slices.specs.declared.Reach.{Reach}
 use Rattle.sq_slices.specs.Bounds.{AreLow}
-use Rattle.sq_slices.specs.Reaches.{reach_at, reach_given, reach_within}
+use Rattle.sq_slices.specs.Reaches.{reach_numbered, reach_given, reach_within}
 use Rattle.sq_slices.proofs.BoundLemmas.{boxes-low, listed-low}
 use Rattle.sq_slices.proofs.FollowLemmas.{next-reaches}
 use Rattle.sq_slices.proofs.rounds.reaches.Goals as goal
@@ -41,7 +41,7 @@ loop-round-preserved c =
     let streams = length (producers_of w) in
     let count = rw c.as_slice.ensures at c.stream_of-streams.ensures in
     c.in_ok-found-2.ensures
-    ∙ ap (λ k. map (λ s. reach_given n c.args.delay (reach_at c.deref.result.now) (producer_of w s)) (numbers_to k)) (count ∙ streams_count w)
-    ∙ ap (λ (found : List (Option Reach)). map (λ s. reach_given n c.args.delay (reach_at found) (producer_of w s)) (numbers_to streams)) (c.deref.ensures.value ∙ c.loop-round.invariant)
+    ∙ ap (λ k. map (λ s. reach_given n c.args.delay (reach_numbered c.deref.result.now) (producer_of w s)) (numbers_to k)) (count ∙ streams_count w)
+    ∙ ap (λ (found : List (Option Reach)). map (λ s. reach_given n c.args.delay (reach_numbered found) (producer_of w s)) (numbers_to streams)) (c.deref.ensures.value ∙ c.loop-round.invariant)
     ∙ next-reaches n c.args.delay c.loop-round._round
     ∙ ap (λ k. map (reach_within n c.args.delay k) (numbers_to streams)) (let e : suc c.loop-round._round ≡ c.loop-round._round + 1 = omega arith in e)
