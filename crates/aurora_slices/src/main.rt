@@ -7,7 +7,7 @@
 
 use sq_slicer::run_slices;
 use sq_outside::write_all;
-use sq_system::{OpenFolder, Out, words_after_name};
+use sq_system::{OpenFolder, Out, take_closed_streams, words_after_name};
 use sq_teller::Status;
 use std::process::ExitCode;
 
@@ -24,6 +24,7 @@ fn run(rt: &HostRuntime) -> Status {
 }
 
 fn main(rt: HostRuntime) -> ExitCode {
+    let _kept = take_closed_streams(&rt);
     let status = run(&rt);
     ExitCode::from(status.code())
 }
