@@ -37,9 +37,9 @@ use Rattle.sq_flow.proofs.WireLemmas.{sent-is}
 use Rattle.sq_flow.specs.declared.wires.Arc.{Arc}
 use Rattle.sq_flow.specs.declared.seats.Seat.{Seat}
 use Rattle.sq_flow.specs.declared.flow.Flow.{Flow}
-use Rattle.sq_flow.specs.declared.heads.Next.TheVariants.{Feed}
+use Rattle.sq_heads.specs.declared.Next.TheVariants.{Feed}
 use Rattle.sq_flow.specs.Wiring.{net_of, arcs_read, arc_wired, marked_of, fits_on, from_of, to_of, arc_place, pushed_by, AllOutsFine, IsOwn}
-use Rattle.sq_flow.specs.Heads.{NextUpTo}
+use Rattle.sq_heads.specs.Heads.{NextUpTo}
 use Rattle.sq_flow.specs.Seats as seat
 use Rattle.sq_flow.specs.Seats.{rest_at, decides_at, lost_at, moment_at, done_at, holds_at, IsSeat, Owns, FedSeat}
 use Rattle.sq_flow.specs.Feeds.{FeedsPart}

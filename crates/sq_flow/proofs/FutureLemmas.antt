@@ -20,8 +20,8 @@ use Rattle.sq_left.proofs.ActorSteps.{EachPort, PortFacts, taken_at}
 use Rattle.sq_left.proofs.WorldSteps.{EachPort-from, Each-from, spread-not-before}
 use Rattle.sq_paged.specs.Fronts.{first_time}
 use Rattle.sq_flow.specs.Wiring.{pushed_by, AllOutsFine}
-use Rattle.sq_flow.specs.Heads.{FirstNotBefore, NextUpTo}
-use Rattle.sq_flow.specs.declared.heads.Next.TheVariants.{Feed}
+use Rattle.sq_heads.specs.Heads.{FirstNotBefore, NextUpTo}
+use Rattle.sq_heads.specs.declared.Next.TheVariants.{Feed}
 use Rattle.sq_left.proofs.HeadWords.{ItemsNotBefore}
 use Rattle.std.proofs.lemmas.Map.Views.{exact_unsigned_eq}
 use Rattle.sq_words.proofs.Numbers.{eqb_true}

@@ -10,9 +10,9 @@ use Rattle.sq_queue.specs.Faces.{face, Together}
 use Rattle.sq_flow.specs.declared.wires.Wires.{Wires}
 use Rattle.sq_flow.specs.declared.flow.Flow.{Flow}
 use Rattle.sq_flow.specs.declared.errors.RunErr.{RunErr}
-use Rattle.sq_flow.specs.declared.heads.Next.TheVariants.{Waits}
+use Rattle.sq_heads.specs.declared.Next.TheVariants.{Waits}
 use Rattle.sq_flow.specs.Wiring.{arcs_read}
-use Rattle.sq_flow.specs.Heads.{NextUpTo}
+use Rattle.sq_heads.specs.Heads.{NextUpTo}
 use Rattle.sq_flow.specs.Events.{drops_of, ShowsIn}
 use Rattle.sq_flow.specs.Plans.{PlansPrefix, plans_of}
 use Rattle.sq_plan.specs.Plans.{Setting}

@@ -14,13 +14,13 @@ ghost use Rattle.sq_flow.specs.Flows.{tuples_to_come};
 ghost use Rattle.sq_flow.specs.Sources.{IsNextSource};
 
 use crate::errors::RunErr;
-use crate::heads::{Next, next_of};
 use crate::onward::fault_of;
 use crate::plans::{close_before, epoch_of};
 use crate::seats::{Seat, feed_into, finish_into};
 use crate::sending::send_one;
 use crate::taking::{count_item, take_item};
 use crate::wires::Wires;
+use sq_heads::Next;
 use sq_item::{Body, Item, Sign};
 use sq_oper::{Event, Operator};
 use sq_outside::{PageDisk, Steps};
@@ -145,7 +145,7 @@ impl<O: Operator + Drop> Flow<O> {
     ghost use Rattle.sq_flow.specs.Causes.{IsCauseIn, IsFeedCause};
     ghost use Rattle.sq_flow.specs.Readiness.{TouchesOnly, Took};
     ghost use Rattle.sq_flow.specs.Wiring.{arcs_read};
-    ghost use Rattle.sq_flow.specs.Heads.{NextUpTo};
+    ghost use Rattle.sq_heads.specs.Heads.{NextUpTo};
     ghost use Rattle.sq_flow.specs.Seats.{done_at};
 
     /// Feeds an operator the first item of an arc.

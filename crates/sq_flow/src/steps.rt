@@ -9,7 +9,7 @@ ghost use Rattle.sq_queue.specs.Faces.{Together};
 
 use crate::errors::RunErr;
 use crate::flow::{Did, Flow, next_source};
-use crate::heads::{Next, next_of};
+use sq_heads::{Next, next_of};
 use sq_oper::{Event, Operator};
 use sq_outside::{PageDisk, Steps};
 use std::sync::ledger::Ledger;
@@ -121,7 +121,7 @@ impl<O: Operator + Drop> Flow<O> {
         ensures stay { IsPrefixOf events.old.items events.new.items }
         ensures took { IfOk result (λ did. TookBy actor did self.old self.new) }
     {
-        match next_of(&self.wires, &self.queues, actor) {
+        match next_of(self.wires.arcs_of(actor), &self.queues) {
             Next::Waits => Ok(Did::Waits),
             Next::Ended => {
                 self.finish_step(disk, actor, events, failed)?;

@@ -1,8 +1,8 @@
 -- What an operator may do next, by the faces of its arcs.
 use Rattle.std.specs.Prelude.{◌≡◌, ℕ, ◌<◌, Bool, true, false, List, Option, Some, None, slice_get}
 use Rattle.sq_left.specs.Heads.{key_before, UpTo}
-use Rattle.sq_flow.specs.declared.heads.Next.{Next}
-use Rattle.sq_flow.specs.declared.heads.Next.TheVariants.{Waits, Ended, Feed}
+use Rattle.sq_heads.specs.declared.Next.{Next}
+use Rattle.sq_heads.specs.declared.Next.TheVariants.{Waits, Ended, Feed}
 
 -- the arc doesn't begin before (t, p), and where nothing stands there, no more will come
 abbrev pub FirstNotBefore : Bool → ℕ → ℕ → ℕ → Option ℕ → Type 0

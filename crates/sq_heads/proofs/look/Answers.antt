@@ -1,6 +1,6 @@
 use Rattle.std.proofs.Common.{◌∙◌, sym}
-use Rattle.sq_flow.proofs.HeadLemmas.{ended-more, head-ended}
-use Rattle.sq_flow.proofs.heads.look.Goals as goal
+use Rattle.sq_heads.proofs.HeadLemmas.{ended-more, head-ended}
+use Rattle.sq_heads.proofs.look.Goals as goal
 
 pub returns-in-Ended : goal.returns-in-Ended
 returns-in-Ended c = λ arcs first ended is same h.

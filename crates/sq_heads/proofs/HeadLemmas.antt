@@ -4,10 +4,10 @@ use Rattle.std.proofs.lemmas.Option.{same_Some}
 use Rattle.std.specs.Prelude.{slice_get}
 use Rattle.sq_paged.specs.declared.Head.TheVariants as head
 use Rattle.sq_paged.specs.Fronts.{head_by}
-use Rattle.sq_flow.specs.declared.heads.Next.{Next}
-use Rattle.sq_flow.specs.declared.heads.Next.TheVariants.{Waits, Ended, Feed}
+use Rattle.sq_heads.specs.declared.Next.{Next}
+use Rattle.sq_heads.specs.declared.Next.TheVariants.{Waits, Ended, Feed}
 use Rattle.sq_left.specs.Heads.{UpTo}
-use Rattle.sq_flow.specs.Heads.{FirstNotBefore, NextUpTo}
+use Rattle.sq_heads.specs.Heads.{FirstNotBefore, NextUpTo}
 use Rattle.sq_left.proofs.MergeLemmas.{eqb-no}
 use Rattle.std.proofs.lemmas.Map.Views.{exact_unsigned_eq}
 

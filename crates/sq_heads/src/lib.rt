@@ -1,12 +1,15 @@
-//! What an operator may do next.
+//! What an operator of a run may do next, by what stands at the front of the queues that it reads.
+//!
+//! The contract of `next_of` is the exact answer, by the face of each arc: the operator waits where some arc has nothing yet,
+//! it is finished where all have ended, and else it is fed the least of the first items, by time and then by port. So what
+//! is fed is the merge of its arcs, and no schedule changes it. Below stand the queues and the order of heads.
+#![tactic(auto)]
 
 ghost use Rattle.std.specs.Prelude.{◌≡◌, ℕ, ◌+◌, ◌^◌, ◌<◌, Bool, List, Option, Some, length, slice_get};
 ghost use Rattle.sq_paged.specs.Fronts.{head_by};
 ghost use Rattle.sq_queue.specs.Faces.{face, size};
-ghost use Rattle.sq_flow.specs.Wiring.{arcs_read};
-ghost use Rattle.sq_flow.specs.Heads.{NextUpTo};
+ghost use Rattle.sq_heads.specs.Heads.{NextUpTo};
 
-use crate::wires::Wires;
 use sq_queue::{Head, Queues};
 
 /// What an operator may do next: nothing yet, finish, or be fed from an arc.
@@ -51,21 +54,18 @@ fn look(head: Head, best: Next, port: u32, arc: u32) -> Next
     }
 }
 
-/// What an operator may do next.
-pub(crate) fn next_of(wires: &Wires, queues: &Queues, actor: u32) -> Next
-    requires actor_in { actor < length wires.now.inputs.items }
-    requires arcs_in { (port arc : ℕ) → slice_get (arcs_read wires.now actor) port ≡ Some arc → arc < size queues.now }
-    requires ports { length (arcs_read wires.now actor) < 2 ^ 32 }
-    ensures { NextUpTo (arcs_read wires.now actor)
-        (λ arc. (face queues.now arc).first) (λ arc. (face queues.now arc).ended) (length (arcs_read wires.now actor)) result }
+/// What an operator may do next that reads these arcs, by port.
+pub fn next_of(arcs: &[u32], queues: &Queues) -> Next
+    requires arcs_in { (port arc : ℕ) → slice_get arcs.now port ≡ Some arc → arc < size queues.now }
+    requires ports { length arcs.now < 2 ^ 32 }
+    ensures { NextUpTo arcs.now (λ arc. (face queues.now arc).first) (λ arc. (face queues.now arc).ended) (length arcs.now) result }
 {
-    let inputs = wires.arcs_of(actor);
-    if inputs.len() == 1 {
-        return look(queues.head(inputs[0]), Next::Ended, 0, inputs[0]);
+    if arcs.len() == 1 {
+        return look(queues.head(arcs[0]), Next::Ended, 0, arcs[0]);
     }
     let mut best = Next::Ended;
-    for port in 0..inputs.len() {
-        let arc = inputs[port];
+    for port in 0..arcs.len() {
+        let arc = arcs[port];
         best = look(queues.head(arc), best, port as u32, arc);
     }
     best
