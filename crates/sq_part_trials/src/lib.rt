@@ -1,31 +1,45 @@
-//! Tests of values, of the readers, of what networks are made of and of keys, by their public calls: what no contract says, as printed text, outside
-//! vectors, and that each call can succeed. It offers nothing.
+//! Tests of the lower libraries by their public calls: what no contract says, as printed text, outside vectors, what a real file
+//! gives, and that a call can succeed which no case makes. It offers nothing.
 //!
 //! They stand here and not in the crates that they test, since a crate with tests is proved a second time, as a program with
-//! them: here a test costs just its own functions. Those of boxes and of queues stand
-//! in crates of their own, which are proved beside this one; what needs whole networks or the top call stands in `sq_trials`, so
-//! that a change above leaves these tests as they were proved.
+//! them: here a test costs just its own functions. What a run of whole networks shows stands beside `sq_cases`, as data; what
+//! stands here are boxes as a caller meets them one by one, expressions, values, lines, levels and draws, the queues with their
+//! pages and disks, what is outside, real or in memory, and schedules.
 #![tactic(auto)]
 
 #[cfg(test)]
 mod csv;
 #[cfg(test)]
-mod generator;
+mod expr;
 #[cfg(test)]
-mod graph;
+mod feeding;
 #[cfg(test)]
-mod keys;
+mod link;
 #[cfg(test)]
-mod place;
+mod numbers;
+#[cfg(test)]
+mod oper;
+#[cfg(test)]
+mod outside;
+#[cfg(test)]
+mod page;
+#[cfg(test)]
+mod pane;
+#[cfg(test)]
+mod plain;
+#[cfg(test)]
+mod pool;
 #[cfg(test)]
 mod qos;
 #[cfg(test)]
-mod reader;
-#[cfg(test)]
-mod replay;
+mod queue;
 #[cfg(test)]
 mod road;
 #[cfg(test)]
-mod tables;
+mod sched;
+#[cfg(test)]
+mod system;
+#[cfg(test)]
+mod told;
 #[cfg(test)]
 mod value;
