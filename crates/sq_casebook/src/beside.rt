@@ -6,10 +6,11 @@ ghost use Rattle.sq_points.specs.Points.{points_of};
 ghost use Rattle.sq_work.specs.SourceFiles.{AreRecorded};
 
 use crate::case::Case;
+use crate::counts::compare_counts;
 use crate::given::{Given, given_by};
-use crate::texts::push_line;
+use crate::texts::{push_line, setting};
 use sq_lines::append_output_line;
-use sq_model::{answer, dropped};
+use sq_model::{answer, dropped, work};
 use sq_net::Network;
 use sq_points::network_points;
 use sq_value::{Name, Tuple};
@@ -83,7 +84,7 @@ fn has_batches(text: &str, class: &str, batches: &[u64]) -> bool {
 }
 
 /// Shows what differs from the slow definitions.
-fn show_difference(shown: &mut String, what: &str) -> Result<(), AllocError> {
+pub fn show_difference(shown: &mut String, what: &str) -> Result<(), AllocError> {
     writeln!(shown, "differs from the model: {what}")
 }
 
@@ -189,23 +190,53 @@ fn compare_drops(
     show_difference(shown, "@drop")
 }
 
-/// Compares what a run wrote with the answers and the records of what it was over.
-fn compare_given(
+/// Shows where all boxes, drops and outputs are fed another number of tuples than a case says.
+fn compare_work(
     alloc: Global,
     shown: &mut String,
     given: &Given,
-    text: &str,
+    case: &str,
 ) -> Result<(), AllocError>
     requires sound { IsSound given.now.network }
     requires limits { KeepsDropLimits given.now.network }
     requires recorded { AreRecorded given.now.network.sources (map (λ xs. xs.items) given.now.sources.items) }
 {
-    compare_outputs(alloc, shown, given, text)?;
-    compare_drops(alloc, shown, given, text)
+    let Some(wanted) = setting(case, "work") else {
+        return Ok(());
+    };
+    let work = work(
+        alloc,
+        &given.network,
+        &given.sources,
+        &given.capacities,
+        given.seed,
+    )?;
+    if format!(in alloc; "{work}")?.as_str() == wanted {
+        return Ok(());
+    }
+    writeln!(shown, "its work is {work}")
 }
 
-/// Compares what the run of a case wrote with the answers and the records of `sq_model`, and shows each class that
-/// differs.
+/// Compares what a run wrote with the answers, the records and the counts of what it was over.
+fn compare_given(
+    alloc: Global,
+    shown: &mut String,
+    given: Given,
+    case: &str,
+    text: &str,
+) -> Result<(), AllocError>
+    requires sound { IsSound given.network }
+    requires limits { KeepsDropLimits given.network }
+    requires recorded { AreRecorded given.network.sources (map (λ xs. xs.items) given.sources.items) }
+{
+    compare_outputs(alloc, shown, &given, text)?;
+    compare_drops(alloc, shown, &given, text)?;
+    compare_work(alloc, shown, &given, case)?;
+    compare_counts(alloc, shown, given, text)
+}
+
+/// Compares what the run of a case wrote with the answers, the records and the counts of `sq_model`, and shows each class
+/// that differs.
 pub fn compare(
     alloc: Global,
     shown: &mut String,
@@ -213,7 +244,7 @@ pub fn compare(
     text: &str,
 ) -> Result<(), AllocError> {
     match given_by(alloc, Case::read(alloc, case)?) {
-        Some(given) => compare_given(alloc, shown, &given, text),
+        Some(given) => compare_given(alloc, shown, given, case, text),
         None => show_difference(shown, "its files"),
     }
 }

@@ -11,6 +11,7 @@ use sq_outside::{Folder, MemFolder};
 use sq_plan::Capacities;
 use sq_reader::read_network;
 use sq_replay::{read_capacities, read_stream};
+use sq_sched::Rule;
 use sq_top::{Command, RunArgs, read_words};
 use sq_value::{Name, Tuple};
 use std::alloc::Global;
@@ -18,24 +19,16 @@ use std::alloc::Global;
 /// No file of a run that ends well is longer.
 const MOST: u64 = 67_108_864;
 
-/// A network, its recorded streams, the capacities and the seed.
+/// A network, its recorded streams, the capacities and the seed; which actor goes on, how far, and how many pages may be in memory.
+#[derive(Drop)]
 pub struct Given {
     pub network: Network,
     pub sources: Vec<Vec<Tuple>>,
     pub capacities: Capacities,
     pub seed: u64,
-}
-
-/// By hand, so that a proof above meets one call where this is let go.
-impl Drop for Given {
-    fn drop(self) {
-        let Given {
-            network: _network,
-            sources: _sources,
-            capacities: _capacities,
-            seed: _seed,
-        } = self;
-    }
+    pub rule: Rule,
+    pub train: u32,
+    pub frames: u32,
 }
 
 fn bytes_of(alloc: Global, folder: &mut MemFolder, name: &Name) -> Option<Vec<u8>>
@@ -121,6 +114,9 @@ fn given_in(alloc: Global, folder: &mut MemFolder, args: &RunArgs) -> Option<Giv
         sources,
         capacities,
         seed: args.seed,
+        rule: args.rule,
+        train: args.train,
+        frames: args.frames,
     })
 }
 

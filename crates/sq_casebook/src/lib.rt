@@ -3,7 +3,7 @@
 //! It promises nothing of its own. For each case of a text `show_cases` runs `run_words` of
 //! `sq_top` over objects in memory, and prints the number of the status, what was written and what was told. Where a run ended
 //! well, its lines are also compared with what the slow definitions of `sq_model` give for the same files: each output with
-//! its answer, each drop with its record. A class that differs is shown, and runs that were compared are counted. What such a
+//! its answer, each drop with its record, each box that stands below no drop with the number of tuples that it is fed, each BSort with that of its late ones. A class that differs is shown, and runs that were compared are counted. What such a
 //! run wrote, or one of files that are made, is audited beside its files, and a verdict that isn't yes is shown. Below stand the top call, the readers and
 //! the slow definitions.
 //!
@@ -18,6 +18,8 @@
 //!   shown is how many runs failed, and each of them that isn't as it is to be);
 //! - `classes: @plan,o` (the lines with these first fields are shown class by class, and then all others, where the order of the
 //!   classes isn't fixed), `counted: o` (of these only how many lines there are), `puts: 5` (so many pages are put at least);
+//! - `puts: as stepped` (of a compared run: it puts the pages that its engine puts, stepped to its end without the top call, and driven);
+//! - `work: 10` (of a compared run: by the slow definitions so many tuples are fed to all boxes, drops and outputs);
 //! - `cuts: yes` (what the run wrote is cut at each byte and audited: shown is which beginning is accepted, if one is);
 //! - `compared: no` (the slow definitions aren't asked, which go through every batch and take too long for some runs).
 #![tactic(auto)]
@@ -26,9 +28,11 @@ mod auditing;
 mod begun;
 mod beside;
 mod case;
+mod counts;
 mod given;
 mod running;
 mod showing;
+mod stepping;
 mod texts;
 mod turns;
 

@@ -13,8 +13,7 @@ pub struct Ran {
     pub code: u8,
     pub out: MemSink,
     pub err: MemSink,
-    /// How many pages were put.
-    pub puts: usize,
+    pub disk: MemDisk,
 }
 
 /// By hand, so that a proof above meets one call where a run is let go.
@@ -24,7 +23,7 @@ impl Drop for Ran {
             code: _code,
             out: _out,
             err: _err,
-            puts: _puts,
+            disk: _disk,
         } = self;
     }
 }
@@ -72,7 +71,7 @@ fn run_over<L: Ledger>(alloc: Global, case: Case, blank: Blank) -> Ran
         code: status.code(),
         out,
         err,
-        puts: disk.puts().len(),
+        disk,
     }
 }
 

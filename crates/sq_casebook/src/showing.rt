@@ -3,6 +3,7 @@ use crate::auditing::{show_cuts, show_verdict};
 use crate::beside::{compare, count_of, first_field, push_class};
 use crate::case::words_of;
 use crate::running::{Ran, run_text};
+use crate::stepping::compare_puts;
 use crate::texts::{push_line, setting};
 use crate::turns::{show_turns, turns_of};
 use anyhow::Error;
@@ -89,7 +90,7 @@ fn show_ran(shown: &mut String, case: &str, ran: &Ran) -> Result<(), AllocError>
     writeln!(shown, "{}", ran.code)?;
     show_out(shown, case, ran.written())?;
     show_text(shown, ran.told())?;
-    show_puts(shown, case, ran.puts)
+    show_puts(shown, case, ran.disk.puts().len())
 }
 
 /// Shows where what a run wrote isn't accepted or differs from the slow definitions, and counts it where it is compared.
@@ -108,7 +109,11 @@ fn check(
         return Ok(());
     }
     *compared = compared.saturating_add(1);
-    compare(alloc, shown, case, ran.written())
+    compare(alloc, shown, case, ran.written())?;
+    if says(case, "puts", "as stepped") {
+        return compare_puts(alloc, shown, case, ran.disk.puts());
+    }
+    Ok(())
 }
 
 /// Shows the run of a case, or what comes of it where it is cut or fails in turn.

@@ -1,4 +1,4 @@
-use Rattle.sq_trials.proofs.top.is_put_by_steps.Goals as goal
+use Rattle.sq_casebook.proofs.stepping.is_put_by_steps.Goals as goal
 
 pub is_stepped_to_end-ends-requires-clause-sound : goal.is_stepped_to_end-ends-requires-clause-sound
 is_stepped_to_end-ends-requires-clause-sound c = c.in_ok-engine.ensures.sound

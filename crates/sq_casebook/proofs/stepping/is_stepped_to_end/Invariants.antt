@@ -2,7 +2,7 @@ use Rattle.sq_pool.specs.Trust.{known}
 use Rattle.sq_queue.specs.Faces.{Together}
 use Rattle.sq_flow.specs.Flows.{measure_of}
 use Rattle.sq_core.specs.Runs.{IsSoundEngine}
-use Rattle.sq_trials.proofs.top.is_stepped_to_end.Given as goal
+use Rattle.sq_casebook.proofs.stepping.is_stepped_to_end.Given as goal
 
 abbrev pub invariant-steps : goal.invariant-steps
 invariant-steps g l = record {

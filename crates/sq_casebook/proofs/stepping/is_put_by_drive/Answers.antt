@@ -1,4 +1,4 @@
-use Rattle.sq_trials.proofs.top.is_put_by_drive.Goals as goal
+use Rattle.sq_casebook.proofs.stepping.is_put_by_drive.Goals as goal
 
 pub is_driven-done-requires-clause-sound : goal.is_driven-done-requires-clause-sound
 is_driven-done-requires-clause-sound c = c.in_ok-engine.ensures.sound
