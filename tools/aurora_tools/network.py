@@ -163,6 +163,10 @@ class Network:
 
         return [of_arc(arc) for arc in range(len(self.arcs))]
 
+    def below(self, own):
+        """Returns the arcs that are reached from these, and themselves."""
+        return {arc for arc in range(len(self.arcs)) if any(self.reached_of[it] >> arc & 1 for it in own)}
+
     @functools.cached_property
     def taken_by(self):
         """The arcs that each box takes, and those that no drop may stand above, as the bits of numbers."""

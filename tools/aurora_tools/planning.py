@@ -156,12 +156,10 @@ def draw(seed, drop, batch):
 
 def keep_of(net, drop):
     """Returns for how many ticks behind a batch of a drop its tuples are needed."""
-    known, keep = {}, 0
-    for arc in net.below(drop.arcs):
-        net.ways(arc, drop.arcs, known)
-    for arc, (_, taker) in enumerate(net.arcs):
-        if arc in known and taker[0] == "output":
-            lasts, reach = known[arc]
+    known, below, keep = net.ways(drop.arcs, drop.boxes), net.below(drop.arcs), 0
+    for arc, (stream, taker) in enumerate(net.arcs):
+        if arc in below and taker[0] == "output":
+            lasts, reach = known[net.givers[stream]]
             keep = max(keep, reach + 1 - min(net.boxes[it]["advance"] - net.boxes[it].get("phase", 0) for it in lasts))
     return keep
 
