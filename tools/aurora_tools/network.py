@@ -204,7 +204,8 @@ class Network:
         if None in last:
             return None, reached
         length = self.table.get("batch", 1) * math.lcm(*(self.boxes[it]["advance"] for it in last))
-        reach = max(it for _, it in [*of_arc.values(), *known.values()])
+        # A box whose streams nothing takes gives no arc, and is on no way.
+        reach = max([0, *(known[number][1] for number in boxes if self.arcs_of[0][number])])
         return Drop(stream, frozenset(own), boxes, sorted(self.arcs[arc][1][1] for arc in ends), length, reach), reached
 
     def ways(self, own, boxes):
