@@ -72,7 +72,7 @@ def output_part(network, run, number, axis, colours):
     """Returns what the page has of an output: how much is shown, what was left out, a panel for each of its fields."""
     output, drop = network.outputs[number], run_text.drop_above(network, number)
     rows, gone = run.shown(output), run_text.missing(network, run, number)
-    more = f", and {len(gone) - MOST_SPANS:,} spans more" if len(gone) > MOST_SPANS else ""
+    more = f", and {counted(len(gone) - MOST_SPANS, 'span')} more" if len(gone) > MOST_SPANS else ""
     left_out = f"Left out by drop {drop}: the windows that start from {spans_told(axis, gone[:MOST_SPANS])}{more}." if gone else ""
     if not gone and run.whole:
         left_out = "Nothing of it was left out."
