@@ -170,6 +170,16 @@ class Streams(unittest.TestCase):
                 self.assertEqual((reader.one(cell), many or wanted), (wanted, wanted), (form, cell))
             self.assertRaises(Refused, reader.one, "1/1/1")
 
+    def test_times_that_share_their_seconds_are_the_sum_of_their_parts(self):
+        # So many rows a second that a second is kept as one part, and so few that it isn't; milliseconds from an origin within a second.
+        for step in (7, 1700):
+            past = [1_772_323_200_250 + it * step for it in range(300)]
+            cells = [(moments.EPOCH + datetime.timedelta(milliseconds=it)).strftime("%Y-%m-%dT%H:%M:%S") + f".{it % 1000:03}Z" for it in past]
+            ticks = moments.Ticks("iso", "ms", "2026-03-01T00:00:00.250Z", False)
+            self.assertEqual(ticks.all(cells), [it * step for it in range(300)])
+            self.assertIsNone(ticks.all([*cells, "2026-03-01T00:00:00.2505Z"]))
+            self.assertEqual(moments.Ticks("iso", "s", "2026-03-01", True).all(cells), [(it - 1_772_323_200_000) // 1000 for it in past])
+
     def test_times_of_a_zones_clock(self):
         words = ("--time", "t", "--zone", "Europe/Berlin")
         rows = "t,v\n2026-03-29T01:59:59,1\n2026-03-29T03:00:00,2\n2026-03-29T01:00:01Z,3\n2026-10-25T01:59:59,4\n2026-10-25T03:00:00,5\n"
