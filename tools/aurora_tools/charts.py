@@ -32,13 +32,22 @@ class Axis:
 
     def marks(self, width):
         """Returns where an axis of this width is marked, with a text for each, and room between the texts."""
-        span, most = max(self.high - self.low, 1), 8
-        while most > 1:
+        span = max(self.high - self.low, 1)
+        for most in range(8, 0, -1):
             found = self.marked(span, most)
-            letters = max((len(line) for _, words in found for line in words.split("\n")), default=0)
-            if len(found) < 2 or (found[1][0] - found[0][0]) / span * width >= letters * LETTER + 8:
+            room = max((letters(words) for _, words in found), default=0) * LETTER + 8
+            if len(found) < 2 or (found[1][0] - found[0][0]) / span * width >= room:
                 break
-            most -= 1
+
+        def meet(one, other):
+            places = [within((tick - self.low) / span * width, words, width) for tick, words in (one, other)]
+            return places[1] - places[0] < (letters(one[1]) + letters(other[1])) / 2 * LETTER + 8
+        # At its ends a text stands further in, and may meet the next one there. The first tells the day.
+        while len(found) > 1 and meet(*found[:2]):
+            (_, gone), (tick, words) = found[:2]
+            found[:2] = [(tick, words if "\n" in words or "\n" not in gone else words + gone[gone.index("\n"):])]
+        while len(found) > 1 and meet(*found[-2:]):
+            del found[-1]
         return found
 
     def marked(self, span, most):
@@ -54,6 +63,16 @@ class Axis:
             found.append((tick, shown if date == day or step >= 86400 else f"{shown}\n{date}"))
             day = date
         return found
+
+
+def letters(words):
+    return max(map(len, words.split("\n")))
+
+
+def within(x, words, width):
+    """Returns where a text stands in the middle of x, or so near to it that the text goes no further out than a panel of this width."""
+    half = letters(words) * LETTER / 2 - 4
+    return min(max(x, half), width - half)
 
 
 def moment(tick):
@@ -171,11 +190,8 @@ class Frame:
             parts.append(level(self.left, self.y(value), self.width, words))
         for tick, words in marks_of_time:
             parts.append(f'<path class="grid" d="M{self.x(tick):.1f} {self.top}v{self.height}"/>')
-            for line, word in enumerate(words.split("\n") if named else []):
-                # A text at an end of the axis goes no further out than the panel.
-                half = len(word) * LETTER / 2 - 4
-                x = min(max(self.x(tick), self.left + half), self.left + self.width - half)
-                parts.append(text(x, self.top + self.height + 14 + 12 * line, word, "mid"))
+            x = self.left + within(self.x(tick) - self.left, words, self.width)
+            parts += [text(x, self.top + self.height + 14 + 12 * line, word, "mid") for line, word in enumerate(words.split("\n") if named else [])]
         return "".join(parts) + f'<rect class="frame" x="{self.left}" y="{self.top}" width="{self.width}" height="{self.height}"/>'
 
     def line(self, points, gone, colour, dots, joined=True):

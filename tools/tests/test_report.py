@@ -146,9 +146,11 @@ class Charts(unittest.TestCase):
             for width in (150, 214, 880):
                 marks = axis.marks(width)
                 self.assertTrue(marks)
-                places = [(tick - axis.low) / (axis.high - axis.low) * width for tick, _ in marks]
-                letters = max(len(line) for _, words in marks for line in words.split("\n"))
-                self.assertTrue(all(after - now >= letters * 6 for now, after in zip(places, places[1:])), (axis, width, marks))
+                drawn = charts.Frame(axis, 0, 0, width, 50, 0, 1).ground([], marks, [])
+                texts = [(float(x), words) for x, words in re.findall(r'<text x="([-0-9.]+)" y="64.0" class="mid">([^<]*)<', drawn)]
+                self.assertEqual(len(texts), len(marks))
+                for (now, words), (after, more) in zip(texts, texts[1:]):
+                    self.assertGreaterEqual(after - now, (len(words) + len(more)) / 2 * 6, (axis, width, marks))
 
     def test_spans_name_each_day_once(self):
         axis, ticks = charts.Axis(0, 200_000, True), charts.Axis(0, 200_000, False)
