@@ -137,6 +137,16 @@ class Plans(unittest.TestCase):
         self.run_of("front.toml", "--capacities", "capacity.csv", "--seed", "3")
         self.assertIn("batch 10 is kept", self.planned("--seed", "3", "--tuple", "requests", "100", *words).stdout)
 
+    def test_a_drop_behind_a_sort_is_asked_of_at_its_stream(self):
+        self.write("net.toml", HOURS)
+        self.write("trades.csv", "".join(f"{tick},{tick},100\n" for tick in range(7200)))
+        self.write("capacity.csv", "1,12000000000\n")
+        self.run_of("net.toml", "--capacities", "capacity.csv")
+        said = self.planned("--tuple", "trades", "100", "net.toml", "capacity.csv", "text").stdout
+        self.assertIn("no drop is below, as far as their ticks say", said)
+        self.assertIn("below stands a drop at bs; the bsort bs gives tuples of ticks of their own: --tuple bs TICK asks of those", said)
+        self.assertIn("drop 0 at bs, before avgs tops:", self.planned("--tuple", "bs", "100", "net.toml", "capacity.csv", "text").stdout)
+
     def test_what_a_batch_needs_with_a_phase(self):
         # The last window of a batch of 60 starts at its second 50, since windows start each 20 seconds from second 10 on: 39 + 1 - (20 - 10) ticks.
         phased = HOURS.replace("version = 1", "version = 2").replace("size = 600\nadvance = 60", "size = 40\nadvance = 20\nphase = 10").replace('[[box]]\nname = "mx"', '[[output]]\nname = "x"\nfrom = "av"\n#').split("\n#")[0]

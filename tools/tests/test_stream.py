@@ -293,16 +293,16 @@ class Streams(unittest.TestCase):
         ran = self.run_on("t,at,v\n5,3,1\n6,1,2\n7,,3\n8,9,3\n9,2,1\n", "--time", "t", "--field", "at=at:time", "--field", "v:int")
         self.assertIn("a BSort by at with slack = 2 loses nothing of this table, but for 1 whose at is behind their tick", ran.stderr)
 
-    def test_an_interrupt_leaves_nothing_and_says_nothing(self):
+    def test_an_interrupt_leaves_nothing(self):
         with open(f"{self.room}/t.csv", "w", encoding="utf-8") as table:
             table.write("t,v\n" + "1,2\n" * 900_000)
-        for sign in (signal.SIGINT, signal.SIGTERM):
+        for sign, told in ((signal.SIGINT, b"stream: interrupted\n"), (signal.SIGTERM, b"")):
             run = subprocess.Popen([f"{TOOLS}/stream", "--time", "t", "t.csv", "s.csv"], cwd=self.room, stderr=subprocess.PIPE)
             while run.poll() is None and len(os.listdir(self.room)) < 2:
                 time.sleep(0.01)
             run.send_signal(sign)
             said = run.communicate()[1]
-            self.assertEqual((said, os.listdir(self.room)), (b"", ["t.csv"]))
+            self.assertEqual((said, os.listdir(self.room)), (told, ["t.csv"]))
             self.assertNotEqual(run.returncode, 0)
 
     def test_help_has_status_0(self):
