@@ -15,7 +15,7 @@ import tempfile
 import threading
 
 from .front import clean
-from .parts import OWN, RESULTS, WRITING, Stop, drop_remains
+from .parts import OWN, RESULTS, WRITING, Stop, drop_remains, is_done, message_of
 
 # A machine that doesn't answer for so long is given up; ssh asks it each 15 seconds.
 SSH = ("ssh", "-T", "-o", "BatchMode=yes", "-o", "ConnectTimeout=10", "-o", "ServerAliveInterval=15", "-o", "ServerAliveCountMax=2", "--")
@@ -221,6 +221,9 @@ class Runs:
                 if reached:
                     send(pieces, process.stdin)
                     came = receive(process.stdout, f"{self.work}/{name}")
+                    # Its other end is still taking the copy away; were it closed now, that would be ended too.
+                    while process.stdout.read(1 << 16):
+                        pass
             except (BrokenPipeError, tarfile.TarError, EOFError):
                 pass
             finally:
@@ -232,7 +235,9 @@ class Runs:
                 said.seek(0)
                 lines = said.read().decode(errors="replace").strip().splitlines()
                 drop_remains(f"{self.work}/{name}")
-                raise Fault(lines[-1] if lines else f"it ended with status {status}" if status else "it brought nothing back", reached)
+                said_there = message_of(f"{self.work}/{name}").splitlines() if came else lines
+                ended = "the connection ended" if status == 255 else f"it ended with status {status}" if status else "it brought nothing back"
+                raise Fault(said_there[-1] if said_there else ended, reached)
 
     def is_there(self, process):
         """Waits until the other end says that it is there, behind whatever a shell that is logged in to writes."""
@@ -321,4 +326,15 @@ def run_parts(runs, machines, parts):
         raise
     if queue.broken:
         raise queue.broken
+    tell(queue.faults, runs.work)
     return queue.faults
+
+
+def tell(faults, work):
+    """Says which machines failed parts that others have run since."""
+    failed = {}
+    for part, tried in faults.items():
+        for name, why in tried if is_done(f"{work}/part-{part}") else ():
+            failed.setdefault(name, []).append(why)
+    for name, whys in failed.items():
+        say(f"{name} failed {len(whys)} part{'s' * (len(whys) > 1)} that ended well then: {whys[-1]}")

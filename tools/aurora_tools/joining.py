@@ -1,5 +1,6 @@
 """Puts together what parts wrote, and says why it can't be where it can't."""
 import bisect
+import itertools
 import os
 import subprocess
 import tempfile
@@ -40,10 +41,11 @@ def look_at_ends(folders, faults):
         status, said = status_of(folder), faults.get(part, [])
         if is_done(folder):
             continue
+        more = "".join(f"; {name}: {why}" for name, why in (said[:-1] if status else said))
         if status:
-            where = f" on {said[-1][0]}" if said and status >= 7 else ""
-            raise Stop(f"part {part} ended with status {status}{where}: {message_of(folder)}", status)
-        raise Stop(f"part {part} has not ended" + "".join(f"; {name}: {why}" for name, why in said))
+            where = f" on {said[-1][0]}" if said else ""
+            raise Stop(f"part {part} ended with status {status}{where}: {message_of(folder)}{more}", status)
+        raise Stop(f"part {part} has not ended{more}")
 
 
 def never_in_time(program, folder, box):
@@ -95,7 +97,7 @@ class Front:
         self.fill()
 
     def fill(self):
-        rows = [row for row, _ in zip(self.more, range(BLOCK))]
+        rows = list(itertools.islice(self.more, BLOCK))
         self.ended = len(rows) < BLOCK
         self.rows += rows
         self.times += map(time_of, rows)
