@@ -13,6 +13,7 @@ import sys
 import tarfile
 import tempfile
 import threading
+import time
 
 from .front import clean
 from .parts import OWN, RESULTS, WRITING, Stop, drop_remains, is_done, message_of
@@ -20,6 +21,8 @@ from .parts import OWN, RESULTS, WRITING, Stop, drop_remains, is_done, message_o
 # A machine that doesn't answer for so long is given up; ssh asks it each 15 seconds.
 SSH = ("ssh", "-T", "-o", "BatchMode=yes", "-o", "ConnectTimeout=10", "-o", "ServerAliveInterval=15", "-o", "ServerAliveCountMax=2", "--")
 PATIENCE = 60
+# So long what runs has to end by itself where the tool is ended.
+GRACE = 5
 # A part is tried so often, and a machine given up when so many connections in a row didn't come about. So many are made to one at a time.
 TRIES, LOST, OPENING = 2, 2, 4
 ROOM = ".aurora-parts"
@@ -28,7 +31,7 @@ ROOM = ".aurora-parts"
 WATCH = '{ read -r end; kill -s TERM 0; } <&3 >/dev/null 2>&1 & watch=$!; exec 3<&-; wait $job; ended=$?; '
 HERE = 'exec 3<&0; sh "$1" </dev/null 3<&- & job=$!; ' + WATCH + "kill $watch; exit $ended"
 THERE = ('umask 077; room=$HOME/%(room)s; watch=; end() { [ -z "$watch" ] || kill $watch; wait; cd; rm -rf "$room"; } 2>/dev/null; '
-         'trap end EXIT; trap "exit 143" HUP INT TERM PIPE; mkdir -p "$room" && cd "$room" && echo %(token)s && head -c %(size)d | tar -xf - || exit 125; '
+         'trap end EXIT; trap "trap : TERM; kill -s TERM 0; exit 143" HUP INT TERM PIPE; mkdir -p "$room" && cd "$room" && echo %(token)s && head -c %(size)d | tar -xf - || exit 125; '
          "exec 3<&0; sh %(part)s/run </dev/null 3<&- >/dev/null & job=$!; " + WATCH +
          "cd %(part)s && tar -cf - $(ls message out status 2>/dev/null); exit $ended")
 
@@ -180,7 +183,7 @@ class Runs:
 
     def closed(self, process):
         """Lets a process go, whose status is returned."""
-        with contextlib.suppress(OSError):
+        with self.one, contextlib.suppress(OSError):
             process.stdin.close()
         try:
             process.wait(PATIENCE)
@@ -192,9 +195,19 @@ class Runs:
         return process.returncode
 
     def end(self):
-        """Ends all that runs. Each has ended when its thread has let it go, which closes what keeps its other end running."""
+        """Begins nothing more, and closes the open end of all that runs, which ends it and takes copies away."""
+        nothing = os.open(os.devnull, os.O_WRONLY)
         with self.one:
             self.ended = True
+            for process in self.open:
+                if not process.stdin.closed:
+                    # Another thread may be writing to it, which then goes to nothing.
+                    os.dup2(nothing, process.stdin.fileno(), inheritable=False)
+        os.close(nothing)
+
+    def stop(self):
+        """Ends what hasn't ended by itself."""
+        with self.one:
             for process in self.open:
                 process.terminate()
 
@@ -321,8 +334,12 @@ def run_parts(runs, machines, parts):
     except BaseException:
         queue.broken = queue.broken or Stop("it was ended")
         runs.end()
+        until = time.monotonic() + GRACE
         for thread in threads:
-            thread.join(PATIENCE)
+            thread.join(max(0, until - time.monotonic()))
+        runs.stop()
+        for thread in threads:
+            thread.join(GRACE)
         raise
     if queue.broken:
         raise queue.broken

@@ -254,10 +254,13 @@ class Parts(unittest.TestCase):
         self.write("mine/part-0/thesis.txt", "precious")
         words = ("--resume", "--work", "mine", "net.toml", "trades=symbol", "4")
         self.refused("mine has part-0 and no plan of parts: name another folder by --work", 2, *words)
-        for cut in ("{", '{"parts": 2', "[]", '{"parts": true}', '{"parts": 1e400}', "[" * 100_000):
+        self.write("mine/plan.json", '{"parts": 2')
+        self.refused("mine/plan.json isn't whole: take the folder away and begin anew", 2, *words)
+        self.refused("mine/plan.json isn't whole: take the folder away and begin anew", 2, "--merge", "mine")
+        for cut in ("[]", "{}", '{"parts": true}', '{"parts": 1e400}', "[" * 100_000, "\x00"):
             self.write("mine/plan.json", cut)
-            self.refused("mine/plan.json isn't whole: take the folder away and begin anew", 2, *words)
-            self.refused("mine/plan.json isn't whole: take the folder away and begin anew", 2, "--merge", "mine")
+            with self.assertRaisesRegex(parts.Stop, "isn't whole"):
+                parts.read_plan(f"{self.room}/mine")
         self.assertTrue(os.path.exists(f"{self.room}/mine/part-0/thesis.txt"))
 
     def test_parts_that_were_not_all_made_are_made_anew_and_nothing_else_is_taken_away(self):
