@@ -31,7 +31,7 @@ shard --on-time[says that no BSort leaves out a tuple, so that keys are ..]
 shard --capacities[the capacities of each part]:FILE:_files
 shard --work[where the parts lie `parts` where none is named]:FOLDER:_files -/
 shard --resume[runs those parts again that didnt end well, and keeps what did]
-shard --sshlogin[more machines, as GNU parallel takes them 8/one,8/two]:HOSTS: 
+shard --sshlogin[the machines that run parts, as ssh takes their names, each ..]:HOSTS: 
 shard --slurm[runs nothing writes an array job to FOLDER/job, and shows ..]
 shard --merge[puts together parts that have been run]:FOLDER:_files -/
 shard --program[the program that runs a part, aurora]:PROGRAM:_files
