@@ -22,9 +22,9 @@ class Values:
         self.known, self.names = {"int": {}, "bool": {}, "text": {}}, []
 
     def number(self, kind, text):
-        """Returns the number of a value that wasn't met as it is written here."""
+        """Returns the number of a value that wasn't met as it is written here, maybe with the end of its line."""
         known = self.known[kind]
-        value = plain(text, kind)
+        value = plain(text.removesuffix(b"\n").removesuffix(b"\r"), kind)
         if value not in known:
             if len(self.names) == MOST_VALUES:
                 return zlib.crc32(value) % CLASSES
@@ -51,31 +51,41 @@ def place_of(source, field):
     return names.index(field) + 1, kinds[names.index(field)]
 
 
+def looked_at(source, at, time, before):
+    """Returns the greatest time so far, as it is written. It stops where the place of a line is one that a run refuses in the whole, and maybe
+    not in a part: a time below that of the line before, a mark of byte order."""
+    if time.startswith(MARK):
+        raise Stop(f"stream {source['name']}: line {at}: Cut", 6)
+    # What is no number is refused by its part.
+    if not time.isdigit() or not before.isdigit() or len(time) > 40:
+        return before
+    if int(time) < int(before):
+        raise Stop(f"stream {source['name']}: line {at}: Falls", 6)
+    return time
+
+
 def numbered(source, field, values):
-    """Yields each line of a source and the number of its key. It stops where the place of a line is one that a run refuses in the whole,
-    and maybe not in a part: a time before that of the line before, a mark of byte order."""
-    (place, kind), before = place_of(source, field), 0
-    known = values.known[kind]
+    """Yields each line of a source and the number of its key."""
+    (place, kind), before = place_of(source, field), b"0"
+    known, width = values.known[kind], 1
     with open(source["file"], "rb") as lines:
         for at, line in enumerate(lines, 1):
             if at == 1:
                 line = line.removeprefix(MARK)
             if line in BLANK or not line:
                 continue
-            if line.startswith(MARK):
-                raise Stop(f"stream {source['name']}: line {at}: Cut", 6)
-            if line[-1] != 10:
-                line += b"\n"
-            cells = line.split(b",", place + 1) if b'"' not in line else [cell for cell, _ in fields_of(line[:-1].removesuffix(b"\r"))]
-            if (time := cells[0]).isdigit() and len(time) < 40:
-                if (now := int(time)) < before:
-                    raise Stop(f"stream {source['name']}: line {at}: Falls", 6)
-                before = now
+            cells = line.split(b",", place + 1)
+            if b'"' in line:
+                cells = [cell for cell, _ in fields_of(line.removesuffix(b"\n").removesuffix(b"\r"))]
+            # Of as many digits the greater number is the greater text.
+            if len(time := cells[0]) != width or not before <= time < b":":
+                before = looked_at(source, at, time, before)
+                width = len(before)
+            else:
+                before = time
             key = cells[place] if len(cells) > place else b""
-            if len(cells) == place + 1:
-                key = key.removesuffix(b"\n").removesuffix(b"\r")
             number = known.get(key)
-            yield values.number(kind, key) if number is None else number, line
+            yield values.number(kind, key) if number is None else number, line if line[-1] == 10 else line + b"\n"
 
 
 class Tally:

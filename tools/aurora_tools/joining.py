@@ -1,31 +1,50 @@
 """Puts together what parts wrote, and says why it can't be where it can't."""
 import bisect
-import itertools
 import os
+import re
 import subprocess
 import tempfile
 import tomllib
 
 from .parts import Stop, is_done, message_of, read_plan, status_of
 
-# So many records of each part are held at once.
-BLOCK = 4096
+# So many bytes of each part are read at once.
+BLOCK = 1 << 17
+LINE = re.compile(rb"[^\n]*\n")
 
 
-def records_of(folder):
-    """Yields what a part wrote record by record: a text in quotes may go on over the end of a line, and quotes in it are doubled."""
-    with open(f"{folder}/out", "rb") as lines:
-        for line in lines:
-            while line.count(b'"') % 2 and (more := next(lines, b"")):
-                line += more
-            yield line
+def blocks_of(folder):
+    """Yields what a part wrote as lists of records: a text in quotes may go on over the end of a line, and quotes in it are doubled."""
+    with open(f"{folder}/out", "rb") as file:
+        rest = b""
+        while block := file.read(BLOCK):
+            block = rest + block
+            lines = LINE.findall(block)
+            rest = block[block.rfind(b"\n") + 1:]
+            if b'"' in block:
+                lines, open_one = records_of(lines)
+                rest = open_one + rest
+            yield lines
+        if rest:
+            yield [rest]
+
+
+def records_of(lines):
+    """Returns the records of lines, and the beginning of one that goes on behind them."""
+    records, begun = [], b""
+    for line in lines:
+        begun += line
+        if begun.count(b'"') % 2 == 0:
+            records.append(begun)
+            begun = b""
+    return records, begun
 
 
 # ---- what parts ended with
 
 def marks_of(part, folder, on_time, told):
     """Returns the records of a part that begin with @; stops where it isn't whole, or a BSort left out tuples of which it was said that none does."""
-    marks = [record for record in records_of(folder) if record.startswith(b"@")]
+    marks = [record for block in blocks_of(folder) for record in block if record[0] == 64]
     if marks[-1:] != [b"@end\n"]:
         raise Stop(f"part {part} isn't whole")
     late = [line for line in marks if line.startswith(b"@late,") and line.rsplit(b",", 1)[1] != b"0\n"]
@@ -84,23 +103,22 @@ def late_words(program):
 
 # ---- the answer
 
-def time_of(record):
-    return int(record.split(b",", 2)[1])
-
-
 class Front:
     """The records of an output that one part has yet to give: some of them, with their times."""
 
     def __init__(self, folder, output):
-        self.more = (record for record in records_of(folder) if record.startswith(output + b","))
+        self.blocks, self.start = blocks_of(folder), output + b","
         self.rows, self.times, self.ended = [], [], False
         self.fill()
 
     def fill(self):
-        rows = list(itertools.islice(self.more, BLOCK))
-        self.ended = len(rows) < BLOCK
-        self.rows += rows
-        self.times += map(time_of, rows)
+        """Reads on up to the next records of the output."""
+        for block in self.blocks:
+            if rows := [row for row in block if row.startswith(self.start)]:
+                self.rows += rows
+                self.times += [int(row.split(b",", 2)[1]) for row in rows]
+                return
+        self.ended = True
 
     def taken(self, bound):
         """Takes the records of times before the bound, all where it is None."""

@@ -311,11 +311,16 @@ class Parts(unittest.TestCase):
 
     def test_what_the_whole_run_refuses_is_refused_before_anything_is_cut(self):
         for lines, why in (("1,a,1\n9,b,2\n3,c,3\n4,a,4\n", "line 3: Falls"), ('1,a,1\n"9",b,2\n08,"c",3\n', "line 3: Falls"), ("1,a,1\n\n\ufeff2,b,2\n", "line 3: Cut"),
-                           ("\ufeff\ufeff2,b,2\n", "line 1: Cut")):
+                           ("\ufeff\ufeff2,b,2\n", "line 1: Cut"), ("1,a,1\n\n9,b,1\n10,c,1\n0000009,d,1\n", "line 5: Falls")):
             self.write("trades.csv", lines)
             whole = subprocess.run([PROGRAM, "run", "net.toml"], cwd=self.room, capture_output=True, text=True)
             self.assertEqual((whole.stderr, whole.returncode), (f"aurora: stream trades: {why}\n", 6))
             self.refused(f"stream trades: {why}", 6, "net.toml", "trades=symbol", "3")
+
+    def test_times_that_are_no_numbers_are_left_to_their_parts(self):
+        self.write("trades.csv", "10,a,1\n1-,b,1\n1 ,b,1\n200,a,2\n,c,3\n2000,d,1\n")
+        said = self.shard("net.toml", "trades=symbol", "4")
+        self.assertRegex(said.stderr, r"^shard: part \d ended with status 6: aurora: stream trades: line \d: Tick\n$")
 
     def test_a_mark_blank_lines_and_ends_of_lines_are_cut_as_a_run_reads_them(self):
         self.write("trades.csv", "\ufeff" + "".join(f"{at},{SYMBOLS[at * at % 11 % 8]},{at * 7 % 61}{end}" for at, end in zip(range(600), ["\n", "\r\n", "\n\n", "\n\r\n"] * 150)) + "\r")
@@ -386,7 +391,7 @@ class Parts(unittest.TestCase):
         for part, some in enumerate(rows):
             os.mkdir(f"{self.room}/part-{part}")
             self.write(f"part-{part}/out", "other,1,x\n" + "".join(row.decode() for row in some) + "@end\n")
-        for block in (1, 3, 40, 4096):
+        for block in (1, 17, 300, 1 << 17):
             with unittest.mock.patch.object(joining, "BLOCK", block):
                 made = [row for rows in joining.merged([joining.Front(f"{self.room}/part-{part}", b"o") for part in range(5)]) for row in rows]
             self.assertEqual(made, sorted((row for some in rows for row in some), key=lambda row: int(row.split(b",")[1])))
