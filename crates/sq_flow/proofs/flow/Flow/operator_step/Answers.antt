@@ -12,7 +12,7 @@ use Rattle.sq_flow.proofs.flow.Flow.operator_step.Goals as goal
 use Rattle.sq_words.proofs.Prefixes.{prefix_itself}
 
 pub returns-in-Waits-clause-works : goal.returns-in-Waits-clause-works
-returns-in-Waits-clause-works g c = waits-not-ready c.args.self.now c.args.actor (rw c.arcs_of.ensures c.in-Waits.ensures)
+returns-in-Waits-clause-works g c = waits-not-ready c.args.self.now c.args.actor (rw c.arcs_of.ensures (rw (← c.deref.ensures.value) c.in-Waits.ensures))
 
 pub returns-in_err-finish_step-in-Ended-clause-cost_err : goal.returns-in_err-finish_step-in-Ended-clause-cost_err
 returns-in_err-finish_step-in-Ended-clause-cost_err g c =
@@ -181,10 +181,10 @@ pub feed_step-requires-clause-running : goal.feed_step-requires-clause-running
 feed_step-requires-clause-running g c = c.requires.running
 
 pub feed_step-requires-clause-head : goal.feed_step-requires-clause-head
-feed_step-requires-clause-head g c = (c.in-Feed.time, rw c.arcs_of.ensures c.in-Feed.ensures)
+feed_step-requires-clause-head g c = (c.in-Feed.time, rw c.arcs_of.ensures (rw (← c.deref.ensures.value) c.in-Feed.ensures))
 
 pub finish_step-requires-clause-head : goal.finish_step-requires-clause-head
-finish_step-requires-clause-head g c = rw c.arcs_of.ensures c.in-Ended.ensures
+finish_step-requires-clause-head g c = rw c.arcs_of.ensures (rw (← c.deref.ensures.value) c.in-Ended.ensures)
 
 pub arcs_of-requires : goal.arcs_of-requires
 arcs_of-requires g c = omega (arith, c.requires.actor_in, c.requires.flow.shaped.inputs_len)
@@ -192,10 +192,10 @@ arcs_of-requires g c = omega (arith, c.requires.actor_in, c.requires.flow.shaped
 pub next_of-requires-clause-arcs_in : goal.next_of-requires-clause-arcs_in
 next_of-requires-clause-arcs_in g c = λ port arc is.
     subst (λ (n : ℕ). arc < n) (sym c.requires.flow.lanes)
-    (c.requires.flow.shaped.arcs_in c.args.actor port arc (ap (λ v. slice_get (numbers_in v) port) c.arcs_of.ensures ∙ is))
+    (c.requires.flow.shaped.arcs_in c.args.actor port arc (ap (λ l. slice_get l port) (ap numbers_in c.arcs_of.ensures ∙ sym c.deref.ensures.value) ∙ is))
 
 pub next_of-requires-clause-ports : goal.next_of-requires-clause-ports
-next_of-requires-clause-ports g c = subst (λ (l : List ℕ). length l < 2 ^ 32) (ap numbers_in c.arcs_of.ensures) (c.requires.flow.shaped.ports c.args.actor)
+next_of-requires-clause-ports g c = subst (λ (l : List ℕ). length l < 2 ^ 32) (ap numbers_in c.arcs_of.ensures ∙ sym c.deref.ensures.value) (c.requires.flow.shaped.ports c.args.actor)
 
 pub finish_step-requires-clause-whole : goal.finish_step-requires-clause-whole
 finish_step-requires-clause-whole g c = c.requires.whole
