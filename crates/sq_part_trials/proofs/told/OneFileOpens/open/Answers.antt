@@ -1,6 +1,6 @@
 use Rattle.std.proofs.Common.{◌≡◌, rules}
-use Rattle.sq_queue_trials.proofs.ToldLemmas.{one-file}
-use Rattle.sq_queue_trials.proofs.told.OneFileOpens.open.Goals as goal
+use Rattle.sq_part_trials.proofs.ToldLemmas.{one-file}
+use Rattle.sq_part_trials.proofs.told.OneFileOpens.open.Goals as goal
 
 pub returns-then-eq : goal.returns-then-eq
 returns-then-eq c =

@@ -2,8 +2,8 @@ use Rattle.std.proofs.Common.{◌≡◌, ◌+◌, ◌≤◌, ◌∙◌, length, 
 use Rattle.std.proofs.lemmas.List.{take_at}
 use Rattle.std.specs.List.{splice}
 use Rattle.sq_system.specs.ByteFiles.{KeepsBeside}
-use Rattle.sq_queue_trials.proofs.ToldLemmas.{splice-keeps}
-use Rattle.sq_queue_trials.proofs.told.RoomByteFile.write_all_at.Goals as goal
+use Rattle.sq_part_trials.proofs.ToldLemmas.{splice-keeps}
+use Rattle.sq_part_trials.proofs.told.RoomByteFile.write_all_at.Goals as goal
 
 pub returns-clause-keeps : goal.returns-clause-keeps
 returns-clause-keeps c =
