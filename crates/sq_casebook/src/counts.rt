@@ -14,7 +14,7 @@ use std::alloc::{AllocError, Global};
 
 /// The number of tuples that boxes are fed, and that of late ones, in the order of the boxes.
 #[derive(Drop)]
-struct Counts {
+struct BoxCounts {
     fed: Vec<u64>,
     late: Vec<u64>,
 }
@@ -24,12 +24,12 @@ fn counts_of(
     alloc: Global,
     network: &Network,
     sources: Vec<Vec<Tuple>>,
-) -> Result<Counts, AllocError>
+) -> Result<BoxCounts, AllocError>
     requires sound { IsSound network.now }
     requires recorded { AreRecorded network.now.sources (map (λ xs. xs.items) sources.items) }
 {
     let streams = full_streams(alloc, network, sources)?;
-    Ok(Counts {
+    Ok(BoxCounts {
         fed: fed(alloc, network, &streams)?,
         late: late(alloc, network, &streams)?,
     })
@@ -61,7 +61,7 @@ fn is_below(points: &[DropPoint], at: u32) -> bool {
 
 /// Whether the lines of a box have its counts. What it is fed is known where it stands below no drop; only a BSort has a
 /// line of late tuples.
-fn is_counted(points: &[DropPoint], counts: &Counts, text: &str, name: &str, at: u32) -> bool {
+fn is_counted(points: &[DropPoint], counts: &BoxCounts, text: &str, name: &str, at: u32) -> bool {
     let fed = counts.fed.get(at as usize).copied();
     let late = counts.late.get(at as usize).copied();
     (is_below(points, at) || number_of(text, "@box", name) == fed)
@@ -69,11 +69,11 @@ fn is_counted(points: &[DropPoint], counts: &Counts, text: &str, name: &str, at:
 }
 
 /// Shows the name of each box whose lines don't have its counts.
-fn show_counts(
+fn compare_boxes(
     shown: &mut String,
     network: &Network,
     points: &[DropPoint],
-    counts: &Counts,
+    counts: &BoxCounts,
     text: &str,
 ) -> Result<(), AllocError> {
     let boxes = network.boxes.as_slice();
@@ -105,5 +105,5 @@ pub fn compare_counts(
         ..
     } = given;
     let counts = counts_of(alloc, &network, sources)?;
-    show_counts(shown, &network, &points, &counts, text)
+    compare_boxes(shown, &network, &points, &counts, text)
 }
