@@ -1,2 +1,3 @@
+mod DiskLemmas
 pub mod KeyLemmas
 mod ToldLemmas
