@@ -13,9 +13,6 @@ use Rattle.sq_system.specs.Spills.{PagesStand, AreKept}
 abbrev Stand : List ℕ → ℕ → Option (List ℕ) → Type 0
 Stand held page one = IfSome one (λ bytes. (length bytes ≡ PAGE) × StandsAt held (page * PAGE) bytes)
 
-same-page : (q page : ℕ) → (q == page) ≡ true → q ≡ page
-same-page q page is = search rules
-
 other-page : (q page : ℕ) → (q == page) ≡ false → q ≢ page
 other-page q page is = search rules
 
@@ -33,7 +30,7 @@ beside before now page q size (Some bytes) whole differ keeps stand =
 -- a page is changed in a list, and the others stand
 changed : (held : List ℕ) (page q : ℕ) (one other : Option (List ℕ)) (b : Bool) → (q == page) ≡ b
     → Stand held page one → (q ≢ page → Stand held q other) → Stand held q (cond b one other)
-changed held page q one other true is new old = subst (λ p. Stand held p one) (sym (same-page q page is)) new
+changed held page q one other true is new old = (let same : q ≡ page = search rules in subst (λ p. Stand held p one) (sym same) new)
 changed held page q one other false is new old = old (other-page q page is)
 
 insert-stands : (pages : Pages) (before now : List ℕ) (page : ℕ) (bytes : List ℕ) → length bytes ≡ PAGE → StandsAt now (page * PAGE) bytes
