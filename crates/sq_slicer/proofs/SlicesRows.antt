@@ -1,5 +1,5 @@
 -- Worked rows, by evaluation.
-use Rattle.std.proofs.Common.{◌≡◌, refl, false, true, List, [], ◌∷◌, Some, None, Ok, Err}
+use Rattle.std.proofs.Common.{◌≡◌, refl, ℕ, false, true, List, [], ◌∷◌, Some, None, Ok, Err}
 use Rattle.std.specs.Prelude.{codes}
 use Rattle.std.specs.Fmt.{digits}
 use Rattle.sq_value.specs.declared.Kind.TheVariants as kind

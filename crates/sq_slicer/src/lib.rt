@@ -35,6 +35,38 @@ pub struct Asked {
     pub net: Name,
 }
 
+// Does what the words ask for, and says how it ended.
+fn run<F: Folder, S: Sink>(
+    alloc: Global,
+    words: &Vec<String>,
+    folder: &mut F,
+    out: &mut S,
+) -> Status
+    ensures ends { SlicesEnd (slices_asked (map string_bytes words.now.items)) (record {
+      told = F.files folder.old;
+      folder_before = F.faults folder.old;
+      folder_now = F.faults folder.new;
+      taken_before = F.taken folder.old;
+      taken_now = F.taken folder.new;
+      read_before = F.read folder.old;
+      read_now = F.read folder.new;
+      out_before = S.written out.old;
+      out_now = S.written out.new;
+      sink_before = S.faults out.old;
+      sink_now = S.faults out.new;
+    })
+        result }
+    ensures no_memory { result ≢ Status.BadNetwork net.Memory }
+    ensures files { F.files folder.new ≡ F.files folder.old }
+    ensures later { (F.faults folder.old ≤ F.faults folder.new) × (F.taken folder.old ≤ F.taken folder.new) × (S.faults out.old ≤ S.faults out.new) }
+{
+    match read_words(alloc, words) {
+        Ok(asked) => answered(alloc, &asked, folder, out),
+        Err(WordsErr::Usage) => Status::Usage,
+        Err(WordsErr::Memory) => Status::Memory,
+    }
+}
+
 /// Does what the words ask for, and tells any status but Ok and Lost to `err`.
 pub fn run_slices<F: Folder, S: Sink, E: Sink>(
     alloc: Global,
@@ -64,10 +96,6 @@ pub fn run_slices<F: Folder, S: Sink, E: Sink>(
     ensures later { (F.faults folder.old ≤ F.faults folder.new) × (F.taken folder.old ≤ F.taken folder.new)
         × (S.faults out.old ≤ S.faults out.new) × (E.faults err.old ≤ E.faults err.new) }
 {
-    let status = match read_words(alloc, words) {
-        Ok(asked) => answered(alloc, &asked, folder, out),
-        Err(WordsErr::Usage) => Status::Usage,
-        Err(WordsErr::Memory) => Status::Memory,
-    };
+    let status = run(alloc, words, folder, out);
     told(alloc, Program::Slices, status, err)
 }

@@ -1,2 +1,9 @@
-use Rattle.sq_teller.proofs.EndLemmas.{asked_told, told_no_memory, unasked_told}
+use Rattle.sq_teller.proofs.EndLemmas.{told_no_memory}
+use Rattle.sq_keys.proofs.ToldLemmas.{ends_told}
 use Rattle.sq_keys.proofs.run_keys.Goals as goal
+
+pub returns-clause-ends : goal.returns-clause-ends
+returns-clause-ends g c = ends_told _ _ c.run-status.result c.told.result c.told.ensures.status c.run-status.ensures.ends
+
+pub returns-clause-no_memory : goal.returns-clause-no_memory
+returns-clause-no_memory g c = told_no_memory c.run-status.result c.told.result c.told.ensures.status c.run-status.ensures.no_memory
