@@ -8,15 +8,13 @@ use Rattle.std.proofs.lemmas.List.{length_push}
 use Rattle.std.specs.Option.{option_to_list}
 use Rattle.std.specs.List.{AllByRecursion, filter}
 use Rattle.sq_value.specs.declared.Tuple.{Tuple}
-use Rattle.sq_aggfn.specs.Groups.{group_of}
 use Rattle.sq_expr.specs.Trees.{Expr}
 use Rattle.sq_expr.specs.Expressions.{holds_of, pair_of}
 use Rattle.sq_lists.specs.Sides.{against, pair_at, pairs_with}
 use Rattle.sq_join.specs.declared.index.Index.{Index}
 use Rattle.sq_join.specs.declared.side_indexes.SideIndexes.{SideIndexes}
-use Rattle.sq_join.specs.Codes.{key_code, row_at_code}
-use Rattle.sq_join.proofs.KeyLemmas.{code-some}
-use Rattle.sq_join.specs.Indexes.{positions_in, belongs, belongs_at, positions, positions_in_row, row_count, index_against, index_of, IsIndex, IsOfSamePlaces, AreIndexes, MayIndex, HasPassing}
+use Rattle.sq_join.specs.Codes.{code_of, row_at_code}
+use Rattle.sq_join.specs.Indexes.{positions_in, belongs, belongs_at, positions, positions_in_row, row_count, index_against, index_of, IsIndex, IsOfSameKeys, AreIndexes, MayIndex, HasPassing}
 use Rattle.sq_words.proofs.Alls.{all_filter, all_push, all_weaker}
 use Rattle.sq_item.specs.Things.{Thing}
 use Rattle.sq_oper.specs.Streams.{things, at_zero}
@@ -52,18 +50,18 @@ rows-push rows new more is none bare row = rw is (bare-push rows more none bare 
 
 -- a tuple was put behind the others
 pub IsIndex-push : (held : List Tuple) (x : Tuple) (before after : Index) (at : ℕ) → at ≡ before.first + length held → at + 1 < 2 ^ 64 → IsIndex held before
-    → IsOfSamePlaces before after → after.first ≡ before.first → row_count after ≡ row_count before → length x.fields ≡ before.width
-    → ((row : ℕ) → row < row_count before → positions_in_row after row ≡ positions_in_row before row ++ (if belongs_at before.places.items (row_count before) row x then at ∷ [] else []))
+    → IsOfSameKeys before after → after.first ≡ before.first → row_count after ≡ row_count before → length x.fields ≡ before.width
+    → ((row : ℕ) → row < row_count before → positions_in_row after row ≡ positions_in_row before row ++ (if belongs_at before.places.items before.parts.items (row_count before) row x then at ∷ [] else []))
     → IsIndex (held ++ x ∷ []) after
 IsIndex-push held x before after at is fits index same first count wide put =
     let n : length (held ++ x ∷ []) ≡ length held + 1 = length_push held x in record {
       rows = λ row low.
           let low' : row < row_count before = omega (arith, count, low) in
-          rw (same.0, first, count)
+          rw (same.0, same.1.0, first, count)
           (put row low'
-          ∙ ap (λ l. l ++ (if belongs_at before.places.items (row_count before) row x then at ∷ [] else [])) (index.rows row low')
-          ∙ rw is (sym (positions-push (belongs_at before.places.items (row_count before) row) before.first held x)));
-      even = λ some. rw same.1 (all_push (λ y. length y.fields ≡ before.width) held x (index.even (omega (arith, count, some))) wide);
+          ∙ ap (λ l. l ++ (if belongs_at before.places.items before.parts.items (row_count before) row x then at ∷ [] else [])) (index.rows row low')
+          ∙ rw is (sym (positions-push (belongs_at before.places.items before.parts.items (row_count before) row) before.first held x)));
+      even = λ some. rw same.1.1 (all_push (λ y. length y.fields ≡ before.width) held x (index.even (omega (arith, count, some))) wide);
       fits = omega (arith, n, is, fits, first);
     }
 
@@ -77,40 +75,39 @@ IsIndex-bare held index none fits = record {
 
 -- ---- what passes is found
 
-belongs-found : (places : List ℕ) (rows row : ℕ) (y : Tuple) (code : ℕ) → key_code (group_of places y) ≡ Some code → row ≡ row_at_code rows code → belongs_at places rows row y ≡ true
-belongs-found places rows row y code at is = ap (belongs rows row) at ∙ rw is (grind (arith, tests))
+belongs-found : (places : List ℕ) (parts : List Expr) (rows row : ℕ) (y : Tuple) (code : ℕ) → code_of places parts y ≡ Some code → row ≡ row_at_code rows code → belongs_at places parts rows row y ≡ true
+belongs-found places parts rows row y code at is = ap (belongs rows row) at ∙ rw is (grind (arith, tests))
 
 module _ (on : Expr) (left right : List Tuple) (indexes : SideIndexes) (are : AreIndexes on left right indexes) (x : Tuple) where
-  by-side : (b : Bool) (code row : ℕ) → length x.fields ≡ (if b then indexes.left else indexes.right).width → key_code (group_of (if b then indexes.left else indexes.right).places.items x) ≡ Some code
+  by-side : (b : Bool) (code row : ℕ) → length x.fields ≡ (if b then indexes.left else indexes.right).width → code_of (if b then indexes.left else indexes.right).places.items (if b then indexes.left else indexes.right).parts.items x ≡ Some code
       → row ≡ row_at_code (row_count (if b then indexes.right else indexes.left)) code → row < row_count (if b then indexes.right else indexes.left)
       → AllByRecursion (λ y. holds_of on (if b then pair_of x y else pair_of y x) ≡ true
-      → belongs_at (if b then indexes.right else indexes.left).places.items (row_count (if b then indexes.right else indexes.left)) row y ≡ true) (if b then right else left)
+      → belongs_at (if b then indexes.right else indexes.left).places.items (if b then indexes.right else indexes.left).parts.items (row_count (if b then indexes.right else indexes.left)) row y ≡ true) (if b then right else left)
   by-side true code row wide at is low =
-      all_weaker (λ y. length y.fields ≡ indexes.right.width) (λ y. holds_of on (pair_of x y) ≡ true → belongs_at indexes.right.places.items (row_count indexes.right) row y ≡ true)
-      (λ y _ holds. belongs-found indexes.right.places.items (row_count indexes.right) row y code (ap key_code (sym (are.equates x y wide holds).0) ∙ at) is)
+      all_weaker (λ y. length y.fields ≡ indexes.right.width) (λ y. holds_of on (pair_of x y) ≡ true → belongs_at indexes.right.places.items indexes.right.parts.items (row_count indexes.right) row y ≡ true)
+      (λ y _ holds. belongs-found indexes.right.places.items indexes.right.parts.items (row_count indexes.right) row y code (sym (are.equates x y wide holds).0 ∙ at) is)
       right (are.both.1.even (omega (arith, low)))
   by-side false code row wide at is low =
-      all_weaker (λ y. length y.fields ≡ indexes.left.width) (λ y. holds_of on (pair_of y x) ≡ true → belongs_at indexes.left.places.items (row_count indexes.left) row y ≡ true)
-      (λ y even holds. belongs-found indexes.left.places.items (row_count indexes.left) row y code (ap key_code (are.equates y x even holds).0 ∙ at) is)
+      all_weaker (λ y. length y.fields ≡ indexes.left.width) (λ y. holds_of on (pair_of y x) ≡ true → belongs_at indexes.left.places.items indexes.left.parts.items (row_count indexes.left) row y ≡ true)
+      (λ y even holds. belongs-found indexes.left.places.items indexes.left.parts.items (row_count indexes.left) row y code ((are.equates y x even holds).0 ∙ at) is)
       left (are.both.0.even (omega (arith, low)))
 
-  alone : (b : Bool) → length x.fields ≡ (if b then indexes.left else indexes.right).width → key_code (group_of (if b then indexes.left else indexes.right).places.items x) ≡ None
+  alone : (b : Bool) → length x.fields ≡ (if b then indexes.left else indexes.right).width → code_of (if b then indexes.left else indexes.right).places.items (if b then indexes.left else indexes.right).parts.items x ≡ None
       → 0 < row_count (if b then indexes.right else indexes.left)
       → AllByRecursion (λ y. holds_of on (if b then pair_of x y else pair_of y x) ≡ false) (if b then right else left)
   alone true wide at low =
       all_weaker (λ y. length y.fields ≡ indexes.right.width) (λ y. holds_of on (pair_of x y) ≡ false)
-      (λ y _. false_from_ne_true (holds_of on (pair_of x y)) (λ holds. code-some (group_of indexes.left.places.items x) (are.equates x y wide holds).1 at))
+      (λ y _. false_from_ne_true (holds_of on (pair_of x y)) (λ holds. (are.equates x y wide holds).1 at))
       right (are.both.1.even low)
   alone false wide at low =
       all_weaker (λ y. length y.fields ≡ indexes.left.width) (λ y. holds_of on (pair_of y x) ≡ false)
-      (λ y even. false_from_ne_true (holds_of on (pair_of y x)) (λ holds.
-      code-some (group_of indexes.left.places.items y) (are.equates y x even holds).1 (ap key_code (are.equates y x even holds).0 ∙ at)))
+      (λ y even. false_from_ne_true (holds_of on (pair_of y x)) (λ holds. (are.equates y x even holds).1 ((are.equates y x even holds).0 ∙ at)))
       left (are.both.0.even low)
 
 -- the row of the key of a tuple that comes
 pub row-found : (on : Expr) (left right : List Tuple) (indexes : SideIndexes) (side : ℕ) (x : Tuple) (code row : ℕ) (own other : Index)
     → own ≡ index_of side indexes → other ≡ index_against side indexes → AreIndexes on left right indexes
-    → length x.fields ≡ own.width → key_code (group_of own.places.items x) ≡ Some code → (row < row_count other) × (row ≡ row_at_code (row_count other) code)
+    → length x.fields ≡ own.width → code_of own.places.items own.parts.items x ≡ Some code → (row < row_count other) × (row ≡ row_at_code (row_count other) code)
     → HasPassing on side x (against side left right) (index_against side indexes) row
 row-found on left right indexes side x code row own other is-own is-other are wide at h =
     (rw is-other at h.0, by-side on left right indexes are x (side == 0) code row (rw is-own at wide) (rw is-own at at) (rw is-other at h.1) (rw is-other at h.0))
@@ -118,7 +115,7 @@ row-found on left right indexes side x code row own other is-own is-other are wi
 -- a tuple whose key has Null passes with none
 pub none-found : (on : Expr) (left right : List Tuple) (indexes : SideIndexes) (side : ℕ) (x : Tuple) (own other : Index)
     → own ≡ index_of side indexes → other ≡ index_against side indexes → AreIndexes on left right indexes
-    → length x.fields ≡ own.width → key_code (group_of own.places.items x) ≡ None → 0 < row_count other
+    → length x.fields ≡ own.width → code_of own.places.items own.parts.items x ≡ None → 0 < row_count other
     → AllByRecursion (λ y. holds_of on (pair_at side x y) ≡ false) (against side left right)
 none-found on left right indexes side x own other is-own is-other are wide at low =
     alone on left right indexes are x (side == 0) (rw is-own at wide) (rw is-own at at) (rw is-other at low)
@@ -183,14 +180,14 @@ pairs-passing on side x test (y ∷ ys) all =
 pub row-pairs : (on : Expr) (side : ℕ) (x : Tuple) (others : List Tuple) (index : Index) (row : ℕ) (ps : List ℕ) → IsIndex others index → HasPassing on side x others index row
     → positions_in_row index row ≡ ps → pairs_with on side x (standing_at index.first others ps) ≡ pairs_with on side x others
 row-pairs on side x others index row ps is has at =
-    let test : Tuple → Bool = belongs_at index.places.items (row_count index) row in
+    let test : Tuple → Bool = belongs_at index.places.items index.parts.items (row_count index) row in
     let listed : ps ≡ positions test index.first others = sym at ∙ is.rows row has.0 in
     rw listed (ap (pairs_with on side x) (tuples-at-positions test index.first others) ∙ pairs-passing on side x test others has.1)
 
 pub row-all : (P : Tuple → Type 0) (others : List Tuple) (index : Index) (row : ℕ) (ps : List ℕ) → IsIndex others index → row < row_count index
     → positions_in_row index row ≡ ps → AllByRecursion P others → AllByRecursion P (standing_at index.first others ps)
 row-all P others index row ps is low at all =
-    let test : Tuple → Bool = belongs_at index.places.items (row_count index) row in
+    let test : Tuple → Bool = belongs_at index.places.items index.parts.items (row_count index) row in
     let listed : standing_at index.first others ps ≡ filter test others =
     ap (standing_at index.first others) (sym at ∙ is.rows row low) ∙ tuples-at-positions test index.first others in
     subst (AllByRecursion P) (sym listed) (all_filter P test others all)
@@ -199,7 +196,7 @@ pub row-within : (others : List Tuple) (index : Index) (row : ℕ) (ps : List �
     → AllByRecursion (λ p. (index.first ≤ p) × (p < index.first + length others)) ps
 row-within others index row ps is low at =
     subst (AllByRecursion (λ p. (index.first ≤ p) × (p < index.first + length others))) (sym (is.rows row low) ∙ at)
-    (positions-within (belongs_at index.places.items (row_count index) row) index.first others)
+    (positions-within (belongs_at index.places.items index.parts.items (row_count index) row) index.first others)
 
 pub tuples-step : (first : ℕ) (others : List Tuple) (ps : List ℕ) (i p : ℕ) (y : Tuple) → drop i ps ≡ p ∷ drop (i + 1) ps → slice_get others (p - first) ≡ Some y
     → standing_at first others (drop i ps) ≡ y ∷ standing_at first others (drop (i + 1) ps)

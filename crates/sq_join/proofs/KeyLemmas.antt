@@ -10,8 +10,9 @@ use Rattle.sq_value.specs.Values.{field, is_null}
 use Rattle.sq_expr.specs.Trees.{Expr}
 use Rattle.sq_expr.specs.Expressions.{pair_of}
 use Rattle.sq_aggfn.specs.Groups.{group_of}
-use Rattle.sq_join.specs.EqualFields.{Equates, EquatesKeys}
-use Rattle.sq_join.specs.Codes.{code_by, key_code, has_null, lone_number}
+use Rattle.sq_expr.specs.Apart.{lacks_one, numbers_for, PartsAgree}
+use Rattle.sq_join.specs.EqualFields.{Equates, EquatesCodes, EquatesKeys}
+use Rattle.sq_join.specs.Codes.{code_by, code_with, code_with_all, key_code, has_null, lone_number}
 
 code-by-some : (o : Option ℤ) (key : List Value) → has_null key ≡ false → code_by o key ≡ None → ⊥
 code-by-some (Some number) key none h = cc h
@@ -20,6 +21,27 @@ code-by-some None key none h = cc (rw none at h)
 -- a key with no Null has a code
 pub code-some : (key : List Value) → has_null key ≡ false → key_code key ≡ None → ⊥
 code-some key none h = code-by-some (lone_number key) key none h
+
+-- a key that has no code has none with more numbers
+pub none_with_all : (ns : List (Option ℤ)) → code_with_all None ns ≡ None
+none_with_all [] = refl
+none_with_all (n ∷ ns) = refl
+
+with-all-some : (o : Option ℕ) (ns : List (Option ℤ)) → (o ≡ None → ⊥) → lacks_one ns ≡ false → code_with_all o ns ≡ None → ⊥
+with-all-some o [] some all h = some h
+with-all-some None (n ∷ ns) some all h = some refl
+with-all-some (Some code) (None ∷ ns) some all h = cc all
+with-all-some (Some code) (Some n ∷ ns) some all h = with-all-some (Some (code_with code n)) ns (λ e. cc e) all h
+
+-- what a predicate equates has the same code on both sides, and has one
+pub equates-codes : (on : Expr) (width : ℕ) (lefts rights : List ℕ) (left-parts right-parts : List Expr) → EquatesKeys on width lefts rights → PartsAgree on width left-parts right-parts
+    → EquatesCodes on width lefts left-parts rights right-parts
+equates-codes on width lefts rights left-parts right-parts keys parts l r wide holds =
+    let same = keys l r wide holds in
+    let agree = parts l r wide holds in (
+      ap₂ code_with_all (ap key_code same.0) agree.0,
+      with-all-some (key_code (group_of lefts l)) (numbers_for left-parts l) (code-some (group_of lefts l) same.1) agree.1,
+    )
 
 or-false : (b c d : Bool) → (c ≡ false → d ≡ false) → b || c ≡ false → b || d ≡ false
 or-false true c d more h = h

@@ -5,13 +5,14 @@ ghost use Rattle.std.specs.List.{AllByRecursion, filter};
 ghost use Rattle.std.specs.Option.{option_to_list};
 ghost use Rattle.sq_value.specs.declared.Value.{Value as V};
 ghost use Rattle.sq_value.specs.Values.{field};
+ghost use Rattle.sq_expr.specs.Apart.{PartsAgree};
 ghost use Rattle.sq_expr.specs.Expressions.{holds_of, pair_of};
 ghost use Rattle.sq_words.specs.Lists.{same_bytes};
 ghost use Rattle.sq_lists.specs.Pairs.{left_fields};
 ghost use Rattle.sq_lists.specs.Sides.{pairs_with};
 ghost use Rattle.sq_join.specs.EqualFields.{Equates};
 
-use sq_expr::{Typed, equated_fields};
+use sq_expr::{EqualParts, Typed, equal_parts, equated_fields};
 use sq_lists::passing_pair;
 use sq_value::{Name, Tuple, Value};
 use std::alloc::{AllocError, Global};
@@ -117,6 +118,14 @@ impl Condition {
         ensures { IfOk result (λ pairs. AllByRecursion (Equates self.now.tree) pairs.items) }
     {
         equated_fields(alloc, &self.on)
+    }
+
+    /// The expressions over left fields and over right ones that the predicate equates, beside bare fields. A left tuple has
+    /// as many fields as `width`.
+    pub(crate) fn equal_parts(&self, alloc: Global, width: usize) -> Result<EqualParts, AllocError>
+        ensures { IfOk result (λ parts. PartsAgree self.now.tree width parts.left.items parts.right.items) }
+    {
+        equal_parts(alloc, &self.on, width)
     }
 
     /// How many fields a left tuple has, and how many a pair, by the columns of the predicate.

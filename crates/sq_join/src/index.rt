@@ -1,13 +1,12 @@
 //! Where the tuples that are held of a side stand, by their keys.
 
-ghost use Rattle.std.specs.Prelude.{◌≡◌, ℕ, ◌+◌, ◌^◌, ◌<◌, ◌==◌, ◌++◌, ◌∷◌, [], List, false, true, length, slice_get, IfOk, IfSome, MatchOption, Some, if◌then◌else◌};
-ghost use Rattle.std.specs.List.{AllByRecursion};
+ghost use Rattle.std.specs.Prelude.{◌≡◌, ℕ, ◌+◌, ◌^◌, ◌<◌, ◌==◌, ◌++◌, ◌∷◌, [], List, false, true, length, slice_get, IfOk, MatchOption, Some, if◌then◌else◌};
 ghost use Rattle.sq_value.specs.declared.Tuple.{Tuple as T};
-ghost use Rattle.sq_aggfn.specs.Groups.{group_of};
-ghost use Rattle.sq_join.specs.Codes.{key_code, row_at_code};
-ghost use Rattle.sq_join.specs.Indexes.{belongs_at, positions_in, positions_in_row, row_count, IsIndex, IsOfSamePlaces};
+ghost use Rattle.sq_join.specs.Codes.{code_of, row_at_code};
+ghost use Rattle.sq_join.specs.Indexes.{belongs_at, positions_in, positions_in_row, row_count, IsIndex, IsOfSameKeys};
 
-use crate::keys::code_at;
+use crate::keys::code_of;
+use sq_expr::Part;
 use sq_value::Tuple;
 use std::alloc::{AllocError, Global};
 use std::collections::VecDeque;
@@ -18,6 +17,7 @@ use std::collections::VecDeque;
 #[derive(Drop)]
 pub(crate) struct Index {
     places: Vec<u32>,
+    parts: Vec<Part>,
     width: usize,
     pub(crate) first: usize,
     pub(crate) rows: Vec<VecDeque<usize>>,
@@ -36,13 +36,14 @@ fn bare_rows(alloc: Global, count: usize) -> Result<Vec<VecDeque<usize>>, AllocE
 }
 
 impl Index {
-    /// The index of a side of which nothing is held, by the key at these places.
-    pub(crate) fn new(alloc: Global, places: Vec<u32>, width: usize) -> Index
-        ensures places { (result.places ≡ places) × (result.width ≡ width) }
+    /// The index of a side of which nothing is held, by the key at these places and of these expressions.
+    pub(crate) fn new(alloc: Global, places: Vec<u32>, parts: Vec<Part>, width: usize) -> Index
+        ensures keys { (result.places ≡ places) × ((result.parts ≡ parts) × (result.width ≡ width)) }
         ensures index { IsIndex [] result }
     {
         Index {
             places,
+            parts,
             width,
             first: 0,
             rows: Vec::new(alloc),
@@ -60,9 +61,9 @@ impl Index {
     /// The code of a tuple's key.
     #[inline(always)]
     pub(crate) fn code_in(&self, x: &Tuple) -> Option<u64>
-        ensures { result ≡ key_code (group_of self.now.places.items x.now) }
+        ensures { result ≡ code_of self.now.places.items self.now.parts.items x.now }
     {
-        code_at(&self.places, x)
+        code_of(&self.places, &self.parts, x)
     }
 
     /// The row in which a key of this code belongs, where there are rows.
@@ -80,8 +81,8 @@ impl Index {
     /// The row in which a tuple belongs.
     #[inline(always)]
     fn row_with(&self, x: &Tuple) -> Option<usize>
-        ensures { MatchOption result ((row : ℕ) → row < row_count self.now → belongs_at self.now.places.items (row_count self.now) row x.now ≡ false)
-            (λ its. (its < row_count self.now) × ((row : ℕ) → belongs_at self.now.places.items (row_count self.now) row x.now ≡ (its == row))) }
+        ensures { MatchOption result ((row : ℕ) → row < row_count self.now → belongs_at self.now.places.items self.now.parts.items (row_count self.now) row x.now ≡ false)
+            (λ its. (its < row_count self.now) × ((row : ℕ) → belongs_at self.now.places.items self.now.parts.items (row_count self.now) row x.now ≡ (its == row))) }
     {
         match self.code_in(x) {
             Some(code) => self.row_of(code),
@@ -90,12 +91,13 @@ impl Index {
     }
 
     /// Puts a position behind the others in a tuple's row, if the tuple is as wide as the others and there is memory.
+    #[inline(always)]
     fn put(&mut self, at: usize, x: &Tuple) -> bool
         ensures even { result ≡ true → length x.now.fields ≡ self.old.width }
         ensures rows { result ≡ true → (row : ℕ) → row < row_count self.old → positions_in_row self.new row
-            ≡ positions_in_row self.old row ++ (if belongs_at self.old.places.items (row_count self.old) row x.now then at ∷ [] else []) }
+            ≡ positions_in_row self.old row ++ (if belongs_at self.old.places.items self.old.parts.items (row_count self.old) row x.now then at ∷ [] else []) }
         ensures len { result ≡ true → row_count self.new ≡ row_count self.old }
-        ensures same { IsOfSamePlaces self.old self.new }
+        ensures same { IsOfSameKeys self.old self.new }
         ensures first { self.new.first ≡ self.old.first }
     {
         if !self.is_even(x) {
@@ -108,10 +110,11 @@ impl Index {
     }
 
     /// Takes in a tuple that comes behind so many.
+    #[inline(always)]
     fn add(&mut self, count: usize, x: &Tuple)
         requires { self.old.first + count + 1 < 2 ^ 64 }
         ensures index { (held : List T) → length held ≡ count → IsIndex held self.old → IsIndex (held ++ x.now ∷ []) self.new }
-        ensures same { IsOfSamePlaces self.old self.new }
+        ensures same { IsOfSameKeys self.old self.new }
         ensures first { self.new.first ≡ self.old.first }
     {
         if !self.rows.is_empty() && !self.put(self.first + count, x) {
@@ -120,10 +123,11 @@ impl Index {
     }
 
     /// Lets go of the first tuple.
+    #[inline(always)]
     pub(crate) fn drop_first(&mut self, x: &Tuple)
         requires { self.old.first + 1 < 2 ^ 64 }
         ensures index { (held : List T) → IsIndex (x.now ∷ held) self.old → IsIndex held self.new }
-        ensures same { IsOfSamePlaces self.old self.new }
+        ensures same { IsOfSameKeys self.old self.new }
     {
         self.first += 1;
         if let Some(row) = self.row_with(x) {
@@ -132,9 +136,10 @@ impl Index {
     }
 
     /// Takes in all that is held anew, in about as many rows.
+    #[inline(never)]
     fn build(&mut self, held: &VecDeque<Tuple>)
         ensures index { IsIndex held.now.items self.new }
-        ensures same { IsOfSamePlaces self.old self.new }
+        ensures same { IsOfSameKeys self.old self.new }
         ensures first { self.new.first ≡ 0 }
     {
         let alloc = *held.allocator();
@@ -149,10 +154,11 @@ impl Index {
     }
 
     /// Takes in a tuple that comes behind what is held.
+    #[inline(always)]
     pub(crate) fn push_last(&mut self, held: &VecDeque<Tuple>, x: &Tuple)
         requires { IsIndex held.now.items self.old }
         ensures index { IsIndex (held.now.items ++ x.now ∷ []) self.new }
-        ensures same { IsOfSamePlaces self.old self.new }
+        ensures same { IsOfSameKeys self.old self.new }
     {
         let is_full = held.len() > 8 && held.len() / 2 > self.rows.len();
         if (is_full && self.is_even(x)) || self.first >= 1 << 63 {

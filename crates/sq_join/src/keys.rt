@@ -1,13 +1,15 @@
 //! What a predicate asks to be equal of the two tuples of a pair.
 
-ghost use Rattle.std.specs.Prelude.{◌≡◌, map, IfOk, OnOk};
+ghost use Rattle.std.specs.Prelude.{◌≡◌, map, Some, IfOk, OnOk};
 ghost use Rattle.sq_value.specs.Values.{field};
+ghost use Rattle.sq_expr.specs.Apart.{numbers_for};
 ghost use Rattle.sq_expr.specs.Trees.{Expr};
 ghost use Rattle.sq_aggfn.specs.Groups.{group_of};
 ghost use Rattle.sq_join.specs.EqualFields.{AreKeys, Equates};
-ghost use Rattle.sq_join.specs.Codes.{key_code, has_null, lone_number};
+ghost use Rattle.sq_join.specs.Codes.{code_of, code_with_all, key_code, has_null, lone_number};
 
 use crate::condition::Condition;
+use sq_expr::Part;
 use sq_groups::Picked;
 use sq_value::{Tuple, Value};
 use std::alloc::{AllocError, Global};
@@ -97,9 +99,9 @@ fn has_null(places: &[u32], fields: &[Value]) -> bool
     }
 }
 
-/// The code of the key that a tuple has at some places, unless there is a Null in it: then it equals no other.
+/// The code of the values that a tuple has at some places, unless there is a Null among them.
 #[inline(always)]
-pub(crate) fn code_at(places: &[u32], x: &Tuple) -> Option<u64>
+fn code_at(places: &[u32], x: &Tuple) -> Option<u64>
     ensures { result ≡ key_code (group_of places.now x.now) }
 {
     let fields = x.fields.as_slice();
@@ -112,4 +114,44 @@ pub(crate) fn code_at(places: &[u32], x: &Tuple) -> Option<u64>
     let mut hasher = FoldHasher::default();
     Picked::new(places, x).hash(&mut hasher);
     Some(hasher.finish())
+}
+
+/// A code with the numbers that stand for the values of some expressions, unless one is Null.
+fn code_with_all(code: u64, parts: &[Part], x: &Tuple) -> Option<u64>
+    ensures { result ≡ code_with_all (Some code) (numbers_for parts.now x.now) }
+{
+    match parts {
+        [] => Some(code),
+        [part, more @ ..] => {
+            let number = part.number(x)?;
+            let next = code
+                .wrapping_add(number.unsigned_abs())
+                .wrapping_mul(SPREAD);
+            code_with_all(next, more, x)
+        }
+    }
+}
+
+/// The code of a key in which are values of expressions.
+#[inline(never)]
+#[tactic(auto, using(crate::proofs::KeyLemmas::none_with_all))]
+fn code_with_parts(places: &[u32], parts: &[Part], x: &Tuple) -> Option<u64>
+    ensures { result ≡ code_of places.now parts.now x.now }
+{
+    match code_at(places, x) {
+        Some(code) => code_with_all(code, parts, x),
+        None => None,
+    }
+}
+
+/// The code of the key that a tuple has at some places and by some expressions, unless there is a Null in it: then it
+/// equals no other.
+#[inline(always)]
+pub(crate) fn code_of(places: &[u32], parts: &[Part], x: &Tuple) -> Option<u64>
+    ensures { result ≡ code_of places.now parts.now x.now }
+{
+    if parts.is_empty() {
+        return code_at(places, x);
+    }
+    code_with_parts(places, parts, x)
 }

@@ -4,11 +4,12 @@ ghost use Rattle.std.specs.Prelude.{◌≡◌, List, [], IfSome};
 ghost use Rattle.sq_value.specs.declared.Tuple.{Tuple as T};
 ghost use Rattle.sq_expr.specs.Trees.{Expr};
 ghost use Rattle.sq_lists.specs.Sides.{against, left_with, recent, right_with};
-ghost use Rattle.sq_join.specs.Indexes.{index_against, index_of, AreIndexes, AreOf, AreCandidates, IsIndex, IsOfSamePlaces};
+ghost use Rattle.sq_join.specs.Indexes.{index_against, index_of, AreIndexes, AreOf, AreCandidates, IsIndex, IsOfSameKeys};
 
 use crate::condition::Condition;
 use crate::index::Index;
 use crate::keys::{Keys, keys_of};
+use sq_expr::EqualParts;
 use sq_lists::{Sides, begins_past};
 use sq_value::Tuple;
 use std::alloc::Global;
@@ -38,11 +39,12 @@ impl Drop for SideIndexes {
 }
 
 /// Lets go of the first tuples, as long as they are more than `size` ticks before a time.
+#[inline(always)]
 fn let_go(held: &mut VecDeque<Tuple>, index: &mut Index, size: u64, now: u64)
     requires { IsIndex held.old.items index.old }
     ensures held { held.new.items ≡ recent size now held.old.items }
     ensures index { IsIndex held.new.items index.new }
-    ensures same { IsOfSamePlaces index.old index.new }
+    ensures same { IsOfSameKeys index.old index.new }
 {
     while begins_past(held, size, now) {
         if let Some(x) = held.pop_front() {
@@ -58,12 +60,17 @@ impl SideIndexes {
     {
         let Keys { width, left, right } = keys_of(alloc, on).ok()?;
         let (_left, all) = on.widths();
-        if left.is_empty() || all < width {
+        let parts = on.equal_parts(alloc, width).ok()?;
+        if (left.is_empty() && parts.left.is_empty()) || all < width {
             return None;
         }
+        let EqualParts {
+            left: left_parts,
+            right: right_parts,
+        } = parts;
         Some(SideIndexes {
-            left: Index::new(alloc, left, width),
-            right: Index::new(alloc, right, all - width),
+            left: Index::new(alloc, left, left_parts, width),
+            right: Index::new(alloc, right, right_parts, all - width),
         })
     }
 
@@ -110,6 +117,7 @@ impl SideIndexes {
     }
 
     /// Lets go of the first tuples of each side, as long as they are more than `size` ticks before a time.
+    #[inline(always)]
     pub(crate) fn let_go(&mut self, sides: &mut Sides, size: u64, now: u64)
         requires { AreOf sides.old.left.items sides.old.right.items self.old }
         ensures left { sides.new.left.items ≡ recent size now sides.old.left.items }
@@ -121,6 +129,7 @@ impl SideIndexes {
     }
 
     /// Takes in a tuple that comes at a side.
+    #[inline(always)]
     pub(crate) fn push_last(&mut self, sides: &Sides, side: u32, x: &Tuple)
         requires { AreOf sides.now.left.items sides.now.right.items self.old }
         ensures { (on : Expr) → AreIndexes on sides.now.left.items sides.now.right.items self.old

@@ -116,6 +116,7 @@ fn give_pairs_in_row<T: Outlet>(
 }
 
 /// Gives the pairs of a tuple that comes at a side with what is held of the other side, in their order.
+#[inline(always)]
 fn meet<T: Outlet>(
     sides: &Sides,
     indexes: &Option<SideIndexes>,
@@ -151,6 +152,7 @@ fn meet<T: Outlet>(
 }
 
 /// Takes a tuple that comes at a side into the indexes.
+#[inline(always)]
 pub(crate) fn push_last(indexes: &mut Option<SideIndexes>, sides: &Sides, side: u32, x: &Tuple)
     requires { IfSome indexes.old (AreOf sides.now.left.items sides.now.right.items) }
     ensures { (on : Expr) → MayIndex on sides.now.left.items sides.now.right.items indexes.old
