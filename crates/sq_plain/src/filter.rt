@@ -1,11 +1,11 @@
 //! Filter.
 
-ghost use Rattle.std.specs.Prelude.{◌≡◌, ℕ, ◌^◌, ◌+◌, ◌<◌, ◌++◌, ◌∷◌, true, false, List, [], length, IsTrue, OnOk, OnErr};
+ghost use Rattle.std.specs.Prelude.{◌≡◌, ℕ, ◌^◌, ◌+◌, ◌<◌, ◌≤◌, ◌++◌, ◌∷◌, true, false, List, [], length, IsTrue, OnOk, OnErr};
 ghost use Rattle.sq_value.specs.declared.Value.{Value};
 ghost use Rattle.sq_words.specs.Lists.{IsPrefixOf};
 ghost use Rattle.sq_item.specs.SoundItems.{IsMark, IsBody};
 ghost use Rattle.sq_item.specs.Things.{Thing};
-ghost use Rattle.sq_lists.specs.Boxes.{filter_list_of};
+ghost use Rattle.sq_lists.specs.Boxes.{filter_list_of, port_taken};
 ghost use Rattle.sq_oper.specs.declared.tally.Moment.{Moment};
 ghost use Rattle.sq_oper.specs.Entries.{Entry};
 ghost use Rattle.sq_oper.specs.Outflow.{given, ItemsSound};
@@ -15,10 +15,12 @@ ghost use Rattle.sq_tagged.specs.TaggedStreams.{HasNoMarks, spread_of, tagged_of
 ghost use Rattle.sq_tagged.specs.Boxes.{filter_tagged};
 ghost use Rattle.sq_tagged.specs.EntrywiseBoxes.{for_mark, for_body};
 ghost use Rattle.sq_plain.specs.Boxes.{filter_gives, filter_rest};
+ghost use Rattle.sq_plain.specs.Ports.{MayGuess};
 ghost use Rattle.sq_expr.specs.Checking.{trees};
 
 use crate::give::{give_to_ports, give_tuple};
-use sq_expr::Typed;
+use crate::ports::Ports;
+use sq_expr::{Typed, holds};
 use sq_item::{Body, Item, Mark, Sign};
 use sq_lists::port_of_tuple;
 use sq_oper::{Decision, Moment, Operator, Outlet, Tally};
@@ -33,6 +35,7 @@ use std::sync::ledger::Ledger;
 #[derive(Drop)]
 pub struct FilterBox {
     preds: Vec<Typed>,
+    ports: Option<Ports>,
     tally: Tally,
 }
 
@@ -54,14 +57,36 @@ impl FilterBox {
         ensures start { (⟦<FilterBox as Operator>⟧.place result ≡ Moment.Start) × (⟦<FilterBox as Operator>⟧.taken result ≡ 0) }
         ensures valid { ⟦<FilterBox as Operator>⟧.valid result × IsTrue (⟦<FilterBox as Operator>⟧.running result) }
     {
+        let ports = Ports::of(*preds.allocator(), &preds);
         FilterBox {
             preds,
+            ports,
             tally: Tally::new(),
         }
     }
 
+    /// The port of a tuple: the number of the first predicate that is true, else their number.
+    fn port_of(&self, tuple: &Tuple) -> usize
+        requires { MayGuess (trees self.now.preds.items) self.now.ports }
+        ensures port { result ≡ port_taken (trees self.now.preds.items) tuple.now }
+        ensures most { result ≤ length self.now.preds.items }
+    {
+        let Some(ports) = &self.ports else {
+            return port_of_tuple(&self.preds, tuple);
+        };
+        let port = ports.guess(tuple);
+        if port >= self.preds.len() {
+            return self.preds.len();
+        }
+        if holds(&self.preds[port], tuple) {
+            return port;
+        }
+        self.preds.len()
+    }
+
     fn send<T: Outlet>(&self, tuple: Tuple, out: &mut T) -> Result<(), AllocError>
         requires few { length self.now.preds.items < 2 ^ 32 }
+        requires guessed { MayGuess (trees self.now.preds.items) self.now.ports }
         requires sound { IsSoundTuple tuple }
         requires is_ready { T.ready out.old }
         ensures given { OnOk result ((q : ℕ) → given q (T.items out.new)
@@ -73,7 +98,7 @@ impl FilterBox {
         ensures stays_ready { OnOk result (T.ready out.new) }
         ensures came { (start : T) → T.came start out.old → T.came start out.new }
     {
-        let port = port_of_tuple(&self.preds, &tuple) as u32;
+        let port = self.port_of(&tuple) as u32;
         give_tuple(port, tuple, out)?;
         Ok(())
     }
@@ -123,6 +148,7 @@ impl FilterBox {
     // Sends an item's tuple to its port.
     fn send_body<T: Outlet>(&self, time: u64, body: Body, out: &mut T) -> Result<(), AllocError>
         requires few { length self.now.preds.items < 2 ^ 32 }
+        requires guessed { MayGuess (trees self.now.preds.items) self.now.ports }
         requires tick { time < 2 ^ 40 }
         requires body { IsBody body }
         requires is_ready { T.ready out.old }
@@ -142,7 +168,7 @@ impl FilterBox {
 }
 
 impl Operator for FilterBox {
-    ghost valid = { λ s. length s.preds.items < 2 ^ 32 };
+    ghost valid = { λ s. (length s.preds.items < 2 ^ 32) × MayGuess (trees s.preds.items) s.ports };
 
     ghost running = { λ s. s.tally.running };
 
