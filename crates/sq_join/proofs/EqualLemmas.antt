@@ -1,26 +1,18 @@
 -- What a predicate asks to be equal.
-use Rattle.std.proofs.Common.{◌≡◌, ℕ, Vec, true, false, refl, List, [], ◌∷◌, subst}
+use Rattle.std.proofs.Common.{◌≡◌, ℕ, Vec, List, [], ◌∷◌, subst}
 use Rattle.std.specs.Prelude.{Some, slice_get, Result, Ok, Err, IfOk}
 use Rattle.std.specs.declared.alloc.Global.{Global}
 use Rattle.std.specs.List.{AllByRecursion}
-use Rattle.sq_value.specs.declared.Value.{Value}
-use Rattle.sq_value.specs.declared.Value.TheVariants as value
-use Rattle.sq_value.specs.Values.{field, is_null}
+use Rattle.sq_value.specs.Values.{field}
 use Rattle.sq_expr.specs.Keys.{equated}
 use Rattle.sq_expr.specs.Trees.{Expr, Field, Compare, Logic}
 use Rattle.sq_expr.specs.declared.CompareOp.TheVariants as compare
 use Rattle.sq_expr.specs.declared.LogicOp.TheVariants as logic
-use Rattle.sq_expr.specs.Expressions.{compare_value, is_true, value_of}
+use Rattle.sq_expr.specs.Expressions.{value_of}
 use Rattle.sq_join.specs.EqualFields.{Equates}
 use Rattle.sq_words.proofs.Alls.{all_append, all_weaker}
 use Rattle.sq_expr.proofs.EqualLemmas.{compared-equal, both-true}
-
--- what equals something isn't Null
-compared-some : (v w : Value) → is_true (compare_value compare.Equal v w) ≡ true → is_null v ≡ false
-compared-some value.Null w h = absurd (cc h)
-compared-some (value.Int i) w h = refl
-compared-some (value.Bool b) w h = refl
-compared-some (value.Text t) w h = refl
+use Rattle.sq_expr.proofs.ApartLemmas.{compared-some}
 
 -- each two places that a predicate equates
 pub equates-all : (e : Expr) → AllByRecursion (Equates e) (equated e)

@@ -13,7 +13,7 @@ use Rattle.sq_expr.specs.Expressions.{holds_of, pair_of}
 use Rattle.sq_lists.specs.Sides.{against, pair_at, pairs_with}
 use Rattle.sq_join.specs.declared.index.Index.{Index}
 use Rattle.sq_join.specs.declared.side_indexes.SideIndexes.{SideIndexes}
-use Rattle.sq_join.specs.Codes.{code_of, row_at_code}
+use Rattle.sq_join.specs.Codes.{tuple_code, row_at_code}
 use Rattle.sq_join.specs.Indexes.{positions_in, belongs, belongs_at, positions, positions_in_row, row_count, index_against, index_of, IsIndex, IsOfSameKeys, AreIndexes, MayIndex, HasPassing}
 use Rattle.sq_words.proofs.Alls.{all_filter, all_push, all_weaker}
 use Rattle.sq_item.specs.Things.{Thing}
@@ -75,11 +75,11 @@ IsIndex-bare held index none fits = record {
 
 -- ---- what passes is found
 
-belongs-found : (places : List ℕ) (parts : List Expr) (rows row : ℕ) (y : Tuple) (code : ℕ) → code_of places parts y ≡ Some code → row ≡ row_at_code rows code → belongs_at places parts rows row y ≡ true
+belongs-found : (places : List ℕ) (parts : List Expr) (rows row : ℕ) (y : Tuple) (code : ℕ) → tuple_code places parts y ≡ Some code → row ≡ row_at_code rows code → belongs_at places parts rows row y ≡ true
 belongs-found places parts rows row y code at is = ap (belongs rows row) at ∙ rw is (grind (arith, tests))
 
 module _ (on : Expr) (left right : List Tuple) (indexes : SideIndexes) (are : AreIndexes on left right indexes) (x : Tuple) where
-  by-side : (b : Bool) (code row : ℕ) → length x.fields ≡ (if b then indexes.left else indexes.right).width → code_of (if b then indexes.left else indexes.right).places.items (if b then indexes.left else indexes.right).parts.items x ≡ Some code
+  by-side : (b : Bool) (code row : ℕ) → length x.fields ≡ (if b then indexes.left else indexes.right).width → tuple_code (if b then indexes.left else indexes.right).places.items (if b then indexes.left else indexes.right).parts.items x ≡ Some code
       → row ≡ row_at_code (row_count (if b then indexes.right else indexes.left)) code → row < row_count (if b then indexes.right else indexes.left)
       → AllByRecursion (λ y. holds_of on (if b then pair_of x y else pair_of y x) ≡ true
       → belongs_at (if b then indexes.right else indexes.left).places.items (if b then indexes.right else indexes.left).parts.items (row_count (if b then indexes.right else indexes.left)) row y ≡ true) (if b then right else left)
@@ -92,7 +92,7 @@ module _ (on : Expr) (left right : List Tuple) (indexes : SideIndexes) (are : Ar
       (λ y even holds. belongs-found indexes.left.places.items indexes.left.parts.items (row_count indexes.left) row y code ((are.equates y x even holds).0 ∙ at) is)
       left (are.both.0.even (omega (arith, low)))
 
-  alone : (b : Bool) → length x.fields ≡ (if b then indexes.left else indexes.right).width → code_of (if b then indexes.left else indexes.right).places.items (if b then indexes.left else indexes.right).parts.items x ≡ None
+  alone : (b : Bool) → length x.fields ≡ (if b then indexes.left else indexes.right).width → tuple_code (if b then indexes.left else indexes.right).places.items (if b then indexes.left else indexes.right).parts.items x ≡ None
       → 0 < row_count (if b then indexes.right else indexes.left)
       → AllByRecursion (λ y. holds_of on (if b then pair_of x y else pair_of y x) ≡ false) (if b then right else left)
   alone true wide at low =
@@ -107,7 +107,7 @@ module _ (on : Expr) (left right : List Tuple) (indexes : SideIndexes) (are : Ar
 -- the row of the key of a tuple that comes
 pub row-found : (on : Expr) (left right : List Tuple) (indexes : SideIndexes) (side : ℕ) (x : Tuple) (code row : ℕ) (own other : Index)
     → own ≡ index_of side indexes → other ≡ index_against side indexes → AreIndexes on left right indexes
-    → length x.fields ≡ own.width → code_of own.places.items own.parts.items x ≡ Some code → (row < row_count other) × (row ≡ row_at_code (row_count other) code)
+    → length x.fields ≡ own.width → tuple_code own.places.items own.parts.items x ≡ Some code → (row < row_count other) × (row ≡ row_at_code (row_count other) code)
     → HasPassing on side x (against side left right) (index_against side indexes) row
 row-found on left right indexes side x code row own other is-own is-other are wide at h =
     (rw is-other at h.0, by-side on left right indexes are x (side == 0) code row (rw is-own at wide) (rw is-own at at) (rw is-other at h.1) (rw is-other at h.0))
@@ -115,7 +115,7 @@ row-found on left right indexes side x code row own other is-own is-other are wi
 -- a tuple whose key has Null passes with none
 pub none-found : (on : Expr) (left right : List Tuple) (indexes : SideIndexes) (side : ℕ) (x : Tuple) (own other : Index)
     → own ≡ index_of side indexes → other ≡ index_against side indexes → AreIndexes on left right indexes
-    → length x.fields ≡ own.width → code_of own.places.items own.parts.items x ≡ None → 0 < row_count other
+    → length x.fields ≡ own.width → tuple_code own.places.items own.parts.items x ≡ None → 0 < row_count other
     → AllByRecursion (λ y. holds_of on (pair_at side x y) ≡ false) (against side left right)
 none-found on left right indexes side x own other is-own is-other are wide at low =
     alone on left right indexes are x (side == 0) (rw is-own at wide) (rw is-own at at) (rw is-other at low)

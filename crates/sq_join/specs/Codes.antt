@@ -47,8 +47,8 @@ abbrev pub key_code : List Value → Option ℕ
 key_code key = code_by (lone_number key) key
 
 -- the code of the key that a tuple has at some places and by some expressions
-abbrev pub code_of : List ℕ → List Expr → Tuple → Option ℕ
-code_of places parts x = code_with_all (key_code (group_of places x)) (numbers_for parts x)
+abbrev pub tuple_code : List ℕ → List Expr → Tuple → Option ℕ
+tuple_code places parts x = code_with_all (key_code (group_of places x)) (numbers_for parts x)
 
 -- the row, of so many, in which keys of a code stand
 abbrev pub row_at_code : ℕ → ℕ → ℕ

@@ -6,7 +6,7 @@ use Rattle.sq_expr.specs.Trees.{Expr}
 use Rattle.sq_expr.specs.Expressions.{holds_of, pair_of}
 use Rattle.sq_aggfn.specs.Groups.{group_of}
 use Rattle.sq_join.specs.declared.keys.Keys.{Keys}
-use Rattle.sq_join.specs.Codes.{code_of, has_null}
+use Rattle.sq_join.specs.Codes.{tuple_code, has_null}
 
 -- the values at two places are the same and not Null in each tuple of which the predicate is true
 abbrev pub Equates : Expr → ℕ × ℕ → Type 0
@@ -24,4 +24,4 @@ AreKeys on keys = EquatesKeys on keys.width keys.left.items keys.right.items
 abbrev pub EquatesCodes : Expr → ℕ → List ℕ → List Expr → List ℕ → List Expr → Type 0
 EquatesCodes on width left-places left-parts right-places right-parts =
     (l r : Tuple) → length l.fields ≡ width → holds_of on (pair_of l r) ≡ true
-    → (code_of left-places left-parts l ≡ code_of right-places right-parts r) × (code_of left-places left-parts l ≡ None → ⊥)
+    → (tuple_code left-places left-parts l ≡ tuple_code right-places right-parts r) × (tuple_code left-places left-parts l ≡ None → ⊥)

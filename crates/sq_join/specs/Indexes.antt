@@ -12,7 +12,7 @@ use Rattle.sq_join.specs.declared.side_indexes.SideIndexes.{SideIndexes}
 use Rattle.sq_join.specs.declared.side_indexes.Candidates.{Candidates}
 use Rattle.sq_join.specs.declared.side_indexes.Candidates.TheVariants as candidates
 use Rattle.sq_join.specs.EqualFields.{EquatesCodes}
-use Rattle.sq_join.specs.Codes.{code_of, row_at_code}
+use Rattle.sq_join.specs.Codes.{tuple_code, row_at_code}
 
 -- whether a key of this code, where it has one, belongs in a row, of so many
 abbrev pub belongs : ℕ → ℕ → Option ℕ → Bool
@@ -21,7 +21,7 @@ belongs rows row (Some code) = row_at_code rows code == row
 
 -- whether the key of a tuple belongs in a row, of so many
 abbrev pub belongs_at : List ℕ → List Expr → ℕ → ℕ → Tuple → Bool
-belongs_at places parts rows row x = belongs rows row (code_of places parts x)
+belongs_at places parts rows row x = belongs rows row (tuple_code places parts x)
 
 -- the positions of the tuples for which a test is true; the first stands at this one
 abbrev pub positions : (Tuple → Bool) → ℕ → List Tuple → List ℕ

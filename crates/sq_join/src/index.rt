@@ -2,10 +2,10 @@
 
 ghost use Rattle.std.specs.Prelude.{◌≡◌, ℕ, ◌+◌, ◌^◌, ◌<◌, ◌==◌, ◌++◌, ◌∷◌, [], List, false, true, length, slice_get, IfOk, MatchOption, Some, if◌then◌else◌};
 ghost use Rattle.sq_value.specs.declared.Tuple.{Tuple as T};
-ghost use Rattle.sq_join.specs.Codes.{code_of, row_at_code};
+ghost use Rattle.sq_join.specs.Codes.{tuple_code, row_at_code};
 ghost use Rattle.sq_join.specs.Indexes.{belongs_at, positions_in, positions_in_row, row_count, IsIndex, IsOfSameKeys};
 
-use crate::keys::code_of;
+use crate::keys::tuple_code;
 use sq_expr::Part;
 use sq_value::Tuple;
 use std::alloc::{AllocError, Global};
@@ -61,9 +61,9 @@ impl Index {
     /// The code of a tuple's key.
     #[inline(always)]
     pub(crate) fn code_in(&self, x: &Tuple) -> Option<u64>
-        ensures { result ≡ code_of self.now.places.items self.now.parts.items x.now }
+        ensures { result ≡ tuple_code self.now.places.items self.now.parts.items x.now }
     {
-        code_of(&self.places, &self.parts, x)
+        tuple_code(&self.places, &self.parts, x)
     }
 
     /// The row in which a key of this code belongs, where there are rows.

@@ -6,7 +6,7 @@ ghost use Rattle.sq_expr.specs.Apart.{numbers_for};
 ghost use Rattle.sq_expr.specs.Trees.{Expr};
 ghost use Rattle.sq_aggfn.specs.Groups.{group_of};
 ghost use Rattle.sq_join.specs.EqualFields.{AreKeys, Equates};
-ghost use Rattle.sq_join.specs.Codes.{code_of, code_with_all, key_code, has_null, lone_number};
+ghost use Rattle.sq_join.specs.Codes.{tuple_code, code_with_all, key_code, has_null, lone_number};
 
 use crate::condition::Condition;
 use sq_expr::Part;
@@ -136,7 +136,7 @@ fn code_with_all(code: u64, parts: &[Part], x: &Tuple) -> Option<u64>
 #[inline(never)]
 #[tactic(auto, using(crate::proofs::KeyLemmas::none_with_all))]
 fn code_with_parts(places: &[u32], parts: &[Part], x: &Tuple) -> Option<u64>
-    ensures { result ≡ code_of places.now parts.now x.now }
+    ensures { result ≡ tuple_code places.now parts.now x.now }
 {
     match code_at(places, x) {
         Some(code) => code_with_all(code, parts, x),
@@ -147,8 +147,8 @@ fn code_with_parts(places: &[u32], parts: &[Part], x: &Tuple) -> Option<u64>
 /// The code of the key that a tuple has at some places and by some expressions, unless there is a Null in it: then it
 /// equals no other.
 #[inline(always)]
-pub(crate) fn code_of(places: &[u32], parts: &[Part], x: &Tuple) -> Option<u64>
-    ensures { result ≡ code_of places.now parts.now x.now }
+pub(crate) fn tuple_code(places: &[u32], parts: &[Part], x: &Tuple) -> Option<u64>
+    ensures { result ≡ tuple_code places.now parts.now x.now }
 {
     if parts.is_empty() {
         return code_at(places, x);

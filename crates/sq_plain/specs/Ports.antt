@@ -10,15 +10,15 @@ use Rattle.sq_expr.specs.Expressions.{holds_of}
 use Rattle.sq_plain.specs.declared.ports.Ports.{Ports}
 
 -- a number's size, what std's fast hasher makes of a text; no law needs that different values have different ones
-abbrev pub word_of : Value → ℕ
-word_of value.Null = 0
-word_of (value.Int i) = unsigned_abs i
-word_of (value.Bool b) = if b then 1 else 0
-word_of (value.Text t) = folding.finish (folding.write folding.initial t)
+abbrev pub value_word : Value → ℕ
+value_word value.Null = 0
+value_word (value.Int i) = unsigned_abs i
+value_word (value.Bool b) = if b then 1 else 0
+value_word (value.Text t) = folding.finish (folding.write folding.initial t)
 
 -- the slot of a value, one of 256
 abbrev pub slot_of : ℕ → Value → ℕ
-slot_of seed v = word_of v * seed % 2 ^ 64 / 2 ^ 56
+slot_of seed v = value_word v * seed % 2 ^ 64 / 2 ^ 56
 
 abbrev pub guess_of : Ports → Value → ℕ
 guess_of ports v = slice_index ports.slots.items (slot_of ports.seed v)

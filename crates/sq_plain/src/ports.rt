@@ -3,7 +3,7 @@
 ghost use Rattle.std.specs.Prelude.{◌≡◌, ◌+◌, ◌<◌, ◌^◌, true, length, IfSome};
 ghost use Rattle.sq_value.specs.Values.{field};
 ghost use Rattle.sq_expr.specs.Checking.{trees};
-ghost use Rattle.sq_plain.specs.Ports.{guess_of, slot_of, word_of, AreGuessed};
+ghost use Rattle.sq_plain.specs.Ports.{guess_of, slot_of, value_word, AreGuessed};
 
 use sq_expr::{Typed, fixed_field};
 use sq_value::{Tuple, Value};
@@ -31,8 +31,8 @@ pub(crate) struct Ports {
 }
 
 /// A number's size, and of a text its hash.
-fn word_of(value: &Value) -> u64
-    ensures { result ≡ word_of value.now }
+fn value_word(value: &Value) -> u64
+    ensures { result ≡ value_word value.now }
 {
     match value {
         Value::Null => 0,
@@ -51,7 +51,7 @@ impl Ports {
     fn slot_of(&self, value: &Value) -> usize
         ensures { result ≡ slot_of self.now.seed value.now }
     {
-        (word_of(value).wrapping_mul(self.seed) >> 56) as usize
+        (value_word(value).wrapping_mul(self.seed) >> 56) as usize
     }
 
     /// The number of the predicate that may be true where a value stands at the place.

@@ -55,8 +55,9 @@ columns = (codes "symbol", kind.Text) ∷ (codes "price", kind.Int) ∷ []
 abbrev node : List ℕ → Body → Node
 node name b = record { name = name; body = b; schemas = columns ∷ []; cost = 1; selectivity = [] }
 
-abbrev output : List ℕ → Output
-output name = record { name = name; weight = 1; graph = [] }
+abbrev outputs_named : List (List ℕ) → List Output
+outputs_named [] = []
+outputs_named (name ∷ names) = record { name = name; weight = 1; graph = [] } ∷ outputs_named names
 
 -- trades counted in windows of 60 ticks every 20; and sorted
 abbrev network : Network
@@ -70,7 +71,7 @@ network = record {
   };
   sources = record { name = codes "trades"; file = []; schema = columns } ∷ [];
   boxes = node (codes "counts") (Aggregate (func.Count ∷ []) [] (record { size = 60; advance = 20; phase = 5 })) ∷ node (codes "sorted") (BSort 1 3) ∷ [];
-  outputs = output (codes "o") ∷ output (codes "p") ∷ output (codes "q") ∷ [];
+  outputs = outputs_named (codes "o" ∷ codes "p" ∷ codes "q" ∷ []);
 }
 
 text_uncut : slices_text network None ≡ codes "o,sliced,0,40,20,5\np,uncut\nq,sliced,0,0,1,0\n@uncut,sorted,bsort\n"
