@@ -5,8 +5,8 @@
 //! `sq_system`. Its exit code is that of the status.
 #![tactic(auto)]
 
-use sq_slicer::run_slices;
 use sq_outside::write_all;
+use sq_slicer::run_slices;
 use sq_system::{OpenFolder, Out, take_closed_streams, words_after_name};
 use sq_teller::Status;
 use std::process::ExitCode;
@@ -25,6 +25,5 @@ fn run(rt: &HostRuntime) -> Status {
 
 fn main(rt: HostRuntime) -> ExitCode {
     let _kept = take_closed_streams(&rt);
-    let status = run(&rt);
-    ExitCode::from(status.code())
+    ExitCode::from(run(&rt).code())
 }

@@ -1,5 +1,5 @@
 -- Worked rows, by evaluation.
-use Rattle.std.proofs.Common.{◌≡◌, refl, ℕ, false, true, List, [], ◌∷◌, Some, None, Ok, Err}
+use Rattle.std.proofs.Common.{◌≡◌, refl, ℕ, false, true, List, [], ◌∷◌, Some, None, Err}
 use Rattle.std.specs.Prelude.{codes}
 use Rattle.std.specs.Fmt.{digits}
 use Rattle.sq_value.specs.declared.Kind.TheVariants as kind
@@ -7,13 +7,13 @@ use Rattle.sq_value.specs.Values.{Columns}
 use Rattle.sq_aggfn.specs.declared.Func.TheVariants as func
 use Rattle.sq_graph.specs.declared.BoxKind.TheVariants as boxes
 use Rattle.sq_net.specs.declared.Body.{Body}
-use Rattle.sq_net.specs.declared.Body.TheVariants.{Aggregate, BSort, Join}
+use Rattle.sq_net.specs.declared.Body.TheVariants.{Aggregate, BSort}
 use Rattle.sq_net.specs.declared.NetErr.TheVariants as net
 use Rattle.sq_net.specs.declared.Network.{Network}
 use Rattle.sq_net.specs.declared.Node.{Node}
 use Rattle.sq_net.specs.declared.Output.{Output}
 use Rattle.sq_teller.specs.declared.Status.TheVariants as status
-use Rattle.sq_teller.specs.Replies.{Refuses, Says}
+use Rattle.sq_teller.specs.Replies.{Refuses}
 use Rattle.sq_slicer.specs.Words.{slices_asked}
 use Rattle.sq_slicer.specs.Lines.{has_no_slices, slices_text}
 use Rattle.sq_slicer.specs.Answers.{slices_by}

@@ -64,11 +64,7 @@ fn put_outputs(
     Ok(())
 }
 
-fn shared_reach(
-    alloc: Global,
-    n: &Network,
-    delay: Option<u64>,
-) -> Result<Option<Reach>, AllocError>
+fn shared_reach(alloc: Global, n: &Network, delay: Option<u64>) -> Result<Option<Reach>, AllocError>
     requires sound { IsSound n.now }
     requires delay { IfSome delay (λ d. d < 2 ^ 40) }
     ensures { IfOk result (λ r. r ≡ shared_reach n.now delay) }

@@ -114,9 +114,9 @@ module _ (r : Replay) (part : List (List Tuple)) (a b : ℕ) (agree : PlansAgree
       elim (cases_lt (last_epoch r) (last_epoch v)) [
         | inl less ↦ sym (longer (last_epoch r) (last_epoch v) less agree.3)
         | inr past ↦ elim (cases_lt (last_epoch v) (last_epoch r)) [
-            | inl less ↦ longer (last_epoch v) (last_epoch r) less (sym agree.3)
-            | inr more ↦ ap (λ n. flat_map (plan v) (numbers_to n)) (let e : last_epoch r ≡ last_epoch v = omega (arith, past, more) in e)
-          ]
+          | inl less ↦ longer (last_epoch v) (last_epoch r) less (sym agree.3)
+          | inr more ↦ ap (λ n. flat_map (plan v) (numbers_to n)) (let e : last_epoch r ≡ last_epoch v = omega (arith, past, more) in e)
+        ]
       ]
 
   pub plans-same : plans_begun r a b ≡ plans_begun v a b

@@ -109,5 +109,5 @@ SlicesShowTheRun r delay reaches =
     (part : List (List Tuple)) (lo hi : ℕ) → SourcesAgree lo hi r.sources part → length part ≡ length r.sources
     → AreInTime r.network delay r.sources → AreInTime r.network delay part → (a b : ℕ)
     → ((o : ℕ) → ReachesInto reaches lo hi (stream_on r.network.wires (output_arc_at r.network.wires o)) a b → DropsReachInto r reaches lo hi a b (drop_above_output r.network o)
-        → AgreeIn a b (answer_of r o) (answer_of (of_part r part) o))
+    → AgreeIn a b (answer_of r o) (answer_of (of_part r part) o))
     × ((w : ℕ) (p : DropPoint) → slice_get (points_of r.network) w ≡ Some p → DropReachesInto r reaches lo hi a b p → drops_begun r w p a b ≡ drops_begun (of_part r part) w p a b)

@@ -163,9 +163,7 @@ pub fn run_reach(alloc: Global, n: &Network, delay: u64) -> Result<Option<Reach>
 fn are_cut(reaches: &[Option<Reach>], inputs: &[u32]) -> bool
     ensures { result ≡ list_all (λ s. is_some (reach_numbered reaches.now s)) inputs.now }
 {
-    inputs
-        .iter()
-        .all(|stream| reach_numbered(reaches, *stream as usize).is_some())
+    inputs.iter().all(|stream| reach_numbered(reaches, *stream as usize).is_some())
 }
 
 fn is_uncut(
