@@ -10,9 +10,7 @@
 ghost use Rattle.std.specs.Prelude.{◌≡◌, ◌<◌};
 
 use sq_outside::{Steps, write_all};
-use sq_system::{
-    NamelessFile, OpenFolder, Out, SpillFile, take_closed_streams, words_after_name,
-};
+use sq_system::{NamelessFile, OpenFolder, Out, SpillFile, take_closed_streams, words_after_name};
 use sq_top::{Status, run_words};
 use std::marker::Brand;
 use std::process::ExitCode;

@@ -24,7 +24,11 @@ impl Opens for HostRuntime {
 /// write to it fails, and so does each read. To be called before any file is opened, and to be kept for the whole run.
 pub fn take_closed_streams(rt: &HostRuntime) -> [io::Result<File>; 3] {
     // A new file gets the lowest descriptor that is free; a call that finds all three taken gets one that is of no use.
-    [File::open(rt, "/"), File::open(rt, "/"), File::open(rt, "/")]
+    [
+        File::open(rt, "/"),
+        File::open(rt, "/"),
+        File::open(rt, "/"),
+    ]
 }
 
 /// A file that is made at the first write, in the working folder and for this user alone, under the first name that is free
