@@ -75,7 +75,9 @@ fn compare_boxes(
     points: &[DropPoint],
     counts: &BoxCounts,
     text: &str,
-) -> Result<(), AllocError> {
+) -> Result<(), AllocError>
+    requires sound { IsSound network.now }
+{
     let boxes = network.boxes.as_slice();
     for at in 0..boxes.len() as u32 {
         let name = boxes[at as usize].name.as_str();
