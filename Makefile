@@ -18,15 +18,19 @@ proved_program = crates/aurora/out/aurora
 quick_program = out/aurora
 proved_keys = crates/aurora_keys/out/aurora_keys
 quick_keys = out/aurora_keys
+proved_slices = crates/aurora_slices/out/aurora_slices
+quick_slices = out/aurora_slices
 # The proved program where the digests of the gate's record say that it is there.
-ifeq ($(shell tools/proved $(proved_program) $(proved_keys) 2>/dev/null),proved)
+ifeq ($(shell tools/proved $(proved_program) $(proved_keys) $(proved_slices) 2>/dev/null),proved)
 PROGRAM ?= $(proved_program)
 KEYS ?= $(proved_keys)
+SLICES ?= $(proved_slices)
 endif
 PROGRAM ?= $(quick_program)
-# The program that tells which outputs parts make, where it is there.
+# The programs that tell which outputs parts by a key make, and how far slices of time reach, where they are there.
 KEYS ?= $(quick_keys)
-export PREFIX DESTDIR PROGRAM KEYS
+SLICES ?= $(quick_slices)
+export PREFIX DESTDIR PROGRAM KEYS SLICES
 
 version := $(shell git describe --tags --always --dirty 2>/dev/null | sed -n 's/^v\{0,1\}\([0-9].*\..*\)/\1/p')
 ifeq ($(version),)
@@ -36,7 +40,7 @@ architecture := $(shell dpkg --print-architecture 2>/dev/null || echo amd64)
 
 .PHONY: all proved install uninstall deb clean
 
-all: $(quick_program) $(quick_keys)
+all: $(quick_program) $(quick_keys) $(quick_slices)
 
 # The crates' files say whether it is to be built again.
 $(quick_program): $(shell find crates -name out -prune -o -name '*.rt' -print) crates.txt tools/build
@@ -47,9 +51,13 @@ $(quick_keys): $(shell find crates -name out -prune -o -name '*.rt' -print) crat
 	mkdir -p out
 	tools/build $@ aurora_keys
 
+$(quick_slices): $(shell find crates -name out -prune -o -name '*.rt' -print) crates.txt tools/build
+	mkdir -p out
+	tools/build $@ aurora_slices
+
 proved:
 	.ci/run
-	tools/proved $(proved_program) $(proved_keys)
+	tools/proved $(proved_program) $(proved_keys) $(proved_slices)
 
 # A program that is named and isn't one to be built is there, or isn't.
 ifeq ($(PROGRAM),$(quick_program))
@@ -57,14 +65,14 @@ install deb: $(quick_program)
 endif
 
 install:
-	tools/install "$$PROGRAM" "$(version)" "$$KEYS"
+	tools/install "$$PROGRAM" "$(version)" "$$KEYS" "$$SLICES"
 
 uninstall:
 	tools/install --remove
 
 deb:
 	mkdir -p out
-	tools/package "$$PROGRAM" "$(version)" "$(architecture)" "out/aurora_$(version)_$(architecture).deb" "$$KEYS"
+	tools/package "$$PROGRAM" "$(version)" "$(architecture)" "out/aurora_$(version)_$(architecture).deb" "$$KEYS" "$$SLICES"
 
 clean:
 	rm -rf out
