@@ -44,8 +44,18 @@ class Fault(Exception):
         self.reached = reached
 
 
+# What takes a terminal's line away.
+CLEARED = "\r\x1b[K"
+
+
 def say(why):
-    print(clean(f"shard: {why}"), file=sys.stderr, flush=True)
+    print((CLEARED if sys.stderr.isatty() else "") + clean(f"shard: {why}"), file=sys.stderr, flush=True)
+
+
+def show_progress(ended, parts):
+    """Shows on a terminal how many parts have ended, in a line that goes again."""
+    if sys.stderr.isatty():
+        print(f"{CLEARED}shard: {ended} of {parts} parts have ended" if ended < parts else CLEARED, end="", file=sys.stderr, flush=True)
 
 
 class Machine:
@@ -268,7 +278,7 @@ class Queue:
     """The parts that are still to be run. Of each are noted the machines that failed it, and why."""
 
     def __init__(self, parts, machines):
-        self.left, self.machines = list(parts), machines
+        self.left, self.machines, self.parts, self.ended = list(parts), machines, len(parts), 0
         self.faults, self.busy, self.broken = {}, 0, None
         self.changed = threading.Condition()
         # On this machine alone what it failed once it fails again.
@@ -303,6 +313,9 @@ class Queue:
                 self.faults.setdefault(part, []).append((str(machine), str(fault)))
             if fault and (not fault.reached or len(self.faults[part]) < self.tries):
                 self.left.insert(0, part)
+            else:
+                self.ended += 1
+                show_progress(self.ended, self.parts)
             self.changed.notify_all()
 
 

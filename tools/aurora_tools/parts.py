@@ -9,7 +9,7 @@ import shlex
 OWN = ("network.toml", "capacities.csv", "run", "out", "message", "status", "slurm")
 WRITING = "writing."
 RESULTS = ("out", "message", "status")
-MOST_PARTS = 1000
+MOST_PARTS, MOST_SLICES = 1000, 10_000
 # Of these statuses the machine is to blame, and not the part: it can't read, its disk, output or memory fails, or the program isn't there.
 RUN = """#!/bin/sh
 # Runs this part. What it wrote is called `out` once it has ended well, and not before. The status is 0 where it has one beside it
@@ -110,9 +110,32 @@ def is_plan(plan):
     """Says whether this has what a plan is asked for, whoever wrote it."""
     def named(it):
         return isinstance(it, dict) and all(isinstance(value, bool) for value in it.values())
-    return (isinstance(plan, dict) and type(plan.get("parts")) is int and 1 <= plan["parts"] <= MOST_PARTS and isinstance(plan.get("on_time"), bool)
+    return (isinstance(plan, dict) and type(plan.get("parts")) is int and 1 <= plan["parts"] <= MOST_SLICES and isinstance(plan.get("on_time"), bool)
             and named(plan.get("outputs")) and named(plan.get("totals")) and isinstance(plan.get("made"), bool)
-            and bool(re.fullmatch(r"[0-9a-f]{16}", str(plan.get("token")))))
+            and bool(re.fullmatch(r"[0-9a-f]{16}", str(plan.get("token"))))
+            and ("slices" not in plan or is_time(plan.get("time")) and are_slices(plan["slices"], plan["parts"])))
+
+
+def are_numbers(it, size=None):
+    return isinstance(it, list) and size in (None, len(it)) and all(type(number) is int and number >= 0 for number in it)
+
+
+def is_time(time):
+    """Says whether this has what is asked of slices of a network."""
+    return (isinstance(time, dict) and are_numbers([time.get("epoch"), 0 if time.get("delay") is None else time["delay"]]) and are_numbers(time.get("reach"), 4)
+            and are_numbers(time.get("lengths")) and isinstance(time.get("checks"), dict) and all(isinstance(it, list) and len(it) == 2 for it in time["checks"].values())
+            and isinstance(time.get("sources"), dict) and are_numbers(list(time["sources"].values())))
+
+
+def are_slices(slices, count):
+    """Says whether this has what is asked of so many slices."""
+    if not isinstance(slices, dict) or not all(isinstance(slices.get(name), list) for name in ("begins", "ranges", "digests", "files")):
+        return False
+    begins, ranges, digests, files = (slices[name] for name in ("begins", "ranges", "digests", "files"))
+    return (are_numbers(begins, count) and begins[0] == 0 and all(a < b for a, b in zip(begins, begins[1:])) and are_numbers([slices.get("bytes")])
+            and len(ranges) == len(digests) == count and all(isinstance(it, list) and len(it) == len(files) and all(are_numbers(two, 2) for two in it) for it in ranges)
+            and all(it is None or isinstance(it, list) and len(it) == len(files) for it in digests)
+            and all(isinstance(it, list) and len(it) == 3 and isinstance(it[0], str) and are_numbers(it[1:]) for it in files))
 
 
 def read_plan(work):
