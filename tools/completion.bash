@@ -72,7 +72,7 @@ explain: --program --messages --hints --capacities
 output: --csv --jsonl --sqlite --output --field --tick --origin
 plan: --epoch --full --tuple --seed --load
 report: --seconds --title
-shard: --on-time --capacities --work --resume --sshlogin --slurm --merge --program --keys
+shard: --time --slices --bytes --delay --on-time --capacities --work --resume --sshlogin --slurm --merge --program --keys --slicer
 stream: --time --unit --zone --tick --origin --down --field --decimals --cut --number --missing --true --false --comma --sort --running --form --separator --name --long
 WORDS
 }

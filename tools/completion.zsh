@@ -27,6 +27,10 @@ plan --seed[the seed of the run, whose draws these are]:N:
 plan --load[plans nothing it tells which epoch has the greatest load by ..]
 report --seconds[shows ticks as seconds since 1970, in UTC]
 report --title[heads the page]:TEXT: 
+shard --time[cuts by time]
+shard --slices[at most so many slices of about as many bytes, unless a run ..]:N: 
+shard --bytes[slices of at most so many bytes of all sources together ..]:N: 
+shard --delay[how late a tuple may come to a BSort at most so many ticks ..]:TICKS: 
 shard --on-time[says that no BSort leaves out a tuple, so that keys are ..]
 shard --capacities[the capacities of each part]:FILE:_files
 shard --work[where the parts lie `parts` where none is named]:FOLDER:_files -/
@@ -35,7 +39,8 @@ shard --sshlogin[the machines that run parts, as ssh takes their names, each ..]
 shard --slurm[runs nothing writes an array job to FOLDER/job, and shows ..]
 shard --merge[puts together parts that have been run]:FOLDER:_files -/
 shard --program[the program that runs a part, aurora]:PROGRAM:_files
-shard --keys[the program that is asked, aurora_keys]:PROGRAM:_files
+shard --keys[the program that is asked about keys, aurora_keys]:PROGRAM:_files
+shard --slicer[the program that is asked about slices of time, aurora_slices]:PROGRAM:_files
 stream --time[the column with the time of a line]:COLUMN: 
 stream --unit[what is in it s, ms, us or ns since 1970 or since any other ..]:UNIT:(iso s ms us ns)
 stream --zone[the zone of times without an offset, as Europe/Berlin, in ..]:NAME: 
