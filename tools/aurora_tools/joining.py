@@ -1,46 +1,24 @@
 """Puts together what parts wrote, and says why it can't be where it can't."""
 import bisect
 import csv
+import io
 import os
 import re
 import subprocess
 import tempfile
 import tomllib
 
+from . import records
 from .parts import Stop, is_done, message_of, read_plan, status_of
 from .seeking import Stream
 
-# So many bytes of each part are read at once.
-BLOCK = 1 << 17
-LINE = re.compile(rb"[^\n]*\n")
 BAD_LINE = re.compile(r"aurora: stream (.*): line ([0-9]+): (\w+)")
 
 
 def blocks_of(folder):
-    """Yields what a part wrote as lists of records: a text in quotes may go on over the end of a line, and quotes in it are doubled."""
+    """Yields what a part wrote as lists of records."""
     with open(f"{folder}/out", "rb") as file:
-        rest = b""
-        while block := file.read(BLOCK):
-            block = rest + block
-            lines = LINE.findall(block)
-            rest = block[block.rfind(b"\n") + 1:]
-            if b'"' in block:
-                lines, open_one = records_of(lines)
-                rest = open_one + rest
-            yield lines
-        if rest:
-            yield [rest]
-
-
-def records_of(lines):
-    """Returns the records of lines, and the beginning of one that goes on behind them."""
-    records, begun = [], b""
-    for line in lines:
-        begun += line
-        if begun.count(b'"') % 2 == 0:
-            records.append(begun)
-            begun = b""
-    return records, begun
+        yield from records.blocks(file)
 
 
 # ---- what parts ended with
@@ -88,7 +66,7 @@ def never_in_time(program, folder, box):
         said = subprocess.run([program, "run", os.path.basename(file.name)], cwd=folder, stdout=subprocess.PIPE, stderr=subprocess.DEVNULL)
     if said.returncode:
         return None
-    return sum(line.startswith(name.encode() + b",") for line in said.stdout.splitlines())
+    return sum(it.startswith(name.encode() + b",") for it in records.records(io.BytesIO(said.stdout)))
 
 
 def late_words(program):

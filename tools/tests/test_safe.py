@@ -1,5 +1,6 @@
 #!/usr/bin/env python3
 """Whatever a file says: nothing that it names runs, nothing that stood there is lost, nothing hangs, and what goes to a terminal can be shown."""
+import io
 import os
 import re
 import resource
@@ -9,10 +10,13 @@ import stat
 import subprocess
 import tempfile
 import threading
+import time
 import unittest
+import unittest.mock
 import xml.etree.ElementTree
 
 import forked
+from aurora_tools import records
 
 TOP = os.path.dirname(os.path.dirname(os.path.dirname(os.path.abspath(__file__))))
 PROGRAM = os.environ.get("AURORA", "aurora")
@@ -142,6 +146,16 @@ class Records(Safe):
         self.assertEqual(self.ran("output", "--jsonl", "-", "n.toml", "t").stdout, b'{"time": 1, "k": "one\\no,9,forged,7\\n@end\\ntwo", "v": 1}\n{"time": 2, "k": "b", "v": 2}\n')
         self.put("t", 'o,1,b,2\no,2,"one\n@end\n')
         self.refused("has no @end", "output", "--jsonl", "-", "n.toml", "t")
+
+    def test_records_are_the_same_however_many_lines_are_looked_at_together(self):
+        due = ['o,1,a\n', 'o,2,"b\nc"\n', '\n', 'o,3,"""\n""\n\n"\n', 'o,4,"d""e"\n', 'o,5,"f\n@end\n']
+        for many in (1, 2, 3, 2048):
+            with unittest.mock.patch.object(records, "MANY", many):
+                self.assertEqual(list(records.records(io.StringIO("".join(due), newline="\n"))), due)
+                self.assertEqual([it for block in records.blocks(io.BytesIO("".join(due).encode())) for it in block], [it.encode() for it in due])
+        before, long = time.process_time(), b'o,1,"' + b"\n" * 300_000 + b'"\n'
+        self.assertEqual(list(records.records(io.BytesIO(long))), [long])
+        self.assertLess(time.process_time() - before, 6)
 
     def test_numbers_are_those_that_a_run_writes(self):
         for row in ("o,1_0,a,1", "o,+1,a,1", "o,١,a,1", "o,1,a,+7", "o,1,a,1_0", "o,1,a,٣", "o,1,a,9223372036854775808", "o,1099511627776,a,1", "o,1,a,1\ro,2,b,1", 'o,1,"a"b,1',

@@ -15,7 +15,7 @@ import unittest.mock
 
 TOP = os.path.dirname(os.path.dirname(os.path.dirname(os.path.abspath(__file__))))
 sys.path.insert(0, f"{TOP}/tools")
-from aurora_tools import cutting, joining, parts  # noqa: E402
+from aurora_tools import cutting, joining, parts, records  # noqa: E402
 
 PROGRAM = os.environ["AURORA"]
 KEYS = os.environ.get("AURORA_KEYS", "")
@@ -391,8 +391,8 @@ class Parts(unittest.TestCase):
         for part, some in enumerate(rows):
             os.mkdir(f"{self.room}/part-{part}")
             self.write(f"part-{part}/out", "other,1,x\n" + "".join(row.decode() for row in some) + "@end\n")
-        for block in (1, 17, 300, 1 << 17):
-            with unittest.mock.patch.object(joining, "BLOCK", block):
+        for many in (1, 2, 9, 2048):
+            with unittest.mock.patch.object(records, "MANY", many):
                 made = [row for rows in joining.merged([joining.Front(f"{self.room}/part-{part}", b"o") for part in range(5)]) for row in rows]
             self.assertEqual(made, sorted((row for some in rows for row in some), key=lambda row: int(row.split(b",")[1])))
 
