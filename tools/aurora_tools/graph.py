@@ -61,7 +61,7 @@ def nodes(network, run):
         words = [output["name"], f"{len(run.shown(output)):,} lines", f"weight {output.get('weight', 1):,}"]
         yield f'o{number} [peripheries=2 fillcolor="#eaf6ea" label={label(words)}];'
     for number, drop in enumerate(network.drops):
-        gone = sum(batch.drop == number for batch in run.batches)
+        gone = len(run.gone[number])
         words = [f"drop {number}", f"batches of {drop.length:,}", f"{gone:,} left out"]
         yield f'd{number} [shape=hexagon margin=0.02 fillcolor="{"#fbe0dc" if gone else "#ffffff"}" label={joined(words)}];'
 

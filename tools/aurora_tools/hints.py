@@ -9,7 +9,7 @@ from .places import line_and_column
 
 KEYS_OF_EXPRESSIONS = {"filter": "where", "map": "set", "join": "on"}
 ORDERS = ("<", "<=", ">", ">=")
-SCALE = re.compile(r"# ([a-z][a-z0-9_]*): .* times (10+)")
+SCALE = re.compile(r"# ([a-z][a-z0-9_]*): .* times (10{1,18})")
 
 
 def at(net, words, remedy, part, number, *way):
@@ -173,8 +173,13 @@ def ends_of(path):
 
 def sources_above(net, stream):
     """Returns the sources that a stream comes from."""
-    giver = net.givers[stream]
-    return {stream} if giver is None else set().union(*(sources_above(net, it) for it in net.boxes[giver]["in"]))
+    above, waiting = set(), [stream]
+    while waiting:
+        if (name := waiting.pop()) not in above:
+            above.add(name)
+            giver = net.givers[name]
+            waiting += [] if giver is None else net.boxes[giver]["in"]
+    return {it for it in above if net.givers[it] is None}
 
 
 def apart(net, box):

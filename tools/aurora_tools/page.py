@@ -1,4 +1,6 @@
 """A run and its network as one page of HTML, without scripts, links and further files."""
+import bisect
+
 from . import charts, graph, run_text, series
 from .finding import counted, listed
 
@@ -54,8 +56,7 @@ def state(network, run):
     if not run.whole:
         return ('<p class="state bad">The run didn\'t come to its end: the text has no <code>@end</code>. What is here is the beginning of each '
                 "output; what would follow isn't known, and more is missing than is grey below.</p>")
-    counts = [(number, sum(it.drop == number for it in run.batches)) for number in range(len(network.drops))]
-    gone = listed(f"{counted(count, 'batch', 'batches')} of drop {number}" for number, count in counts if count)
+    gone = listed(f"{counted(len(batches), 'batch', 'batches')} of drop {number}" for number, batches in sorted(run.gone.items()) if batches)
     missing = f"Under load it left out {gone}: the windows that are grey below." if run.batches else "It left out no windows: each output is whole."
     late = sum(run.late.values())
     too_late = f" A BSort left out {counted(late, 'tuple')}, too late or without a time." if late else ""
@@ -86,13 +87,14 @@ def output_part(network, run, number, axis, colours):
 
 def plans_part(network, run, axis):
     """Returns the loads and capacities of the epochs that have a plan, as bars and as a table with what went of each drop."""
-    rows, gone = [], [[(it.number, it.level) for it in run.batches if it.drop == number] for number in range(len(network.drops))]
+    rows = []
     for plan in run.plans[:MOST_PLANS]:
         begin, end = plan.epoch * network.epoch, (plan.epoch + 1) * network.epoch
         row = [f"{plan.epoch:,}", axis.text(begin), f"{plan.load:,}", f"{plan.capacity:,}", f"{plan.saved:,}", plan.verdict]
         for number, drop in enumerate(network.drops):
             batches = range(-(-begin // drop.length), -(-end // drop.length))
-            levels = [level for batch, level in gone[number] if batch in batches]
+            gone = run.gone[number]
+            levels = [level for _, level in gone[bisect.bisect_left(gone, (batches.start,)):bisect.bisect_left(gone, (batches.stop,))]]
             went = f"{len(levels)} of {len(batches)}" if batches else "none begins"
             row.append(went + (f" (level {levels[0]})" if levels else ""))
         rows.append(row)

@@ -1,6 +1,7 @@
 """What a run wrote, class by class, and whether it can be the run of a network."""
 import collections
 import csv
+import functools
 import io
 import re
 import sys
@@ -54,7 +55,10 @@ class Run:
         if kind == "@plan":
             if row[5] not in ("fits", "short"):
                 raise ValueError(row[5])
-            self.plans.append(Plan(*(number(it) for it in row[1:5]), row[5]))
+            plan = Plan(*(number(it) for it in row[1:5]), row[5])
+            if self.plans and plan.epoch <= self.plans[-1].epoch:
+                raise ValueError(row[1])
+            self.plans.append(plan)
         elif kind == "@drop":
             self.batches.append(Batch(*(number(it) for it in row[1:4])))
         elif kind == "@box":
@@ -69,12 +73,23 @@ class Run:
     def shown(self, output):
         return self.rows.get(output["name"], [])
 
+    @functools.cached_property
+    def gone(self):
+        """The numbers of the batches that each drop left out, ascending, with their levels, by the drop's number."""
+        found = collections.defaultdict(list)
+        for drop, number, level in sorted(self.batches):
+            found[drop].append((number, level))
+        return found
+
 
 def agree(network, run):
     """Raises Strange where the text isn't that of a run of the network."""
-    unknown = sorted(run.fed.keys() - {box["name"] for box in network.boxes} | run.rows.keys() - {output["name"] for output in network.outputs})
+    kinds = {box["name"]: box["kind"] for box in network.boxes}
+    unknown = sorted(run.fed.keys() - kinds.keys() | run.rows.keys() - {output["name"] for output in network.outputs})
     if unknown:
         raise Strange(f"{network.path} has no {', '.join(unknown)}, of which the text tells: it is the run of another network")
+    if strange := sorted(name for name in run.late if kinds.get(name) != "bsort" or run.late[name] > run.fed.get(name, 0)):
+        raise Strange(f"the text tells of tuples of {strange[0]} that came too late, and of no BSort of this name in {network.path} that was fed so many")
     if any(batch.drop < len(network.drops) and batch.number * network.drops[batch.drop].length >= MOST_TICK for batch in run.batches):
         raise Strange("the text tells of a batch behind all ticks")
     if any(batch.drop >= len(network.drops) for batch in run.batches):
@@ -115,7 +130,7 @@ def drop_above(network, output):
 def missing(network, run, output):
     """Returns the spans of ticks that the run left out of an output, ascending, those that meet as one."""
     number, spans = drop_above(network, output), []
-    for batch in sorted(it.number for it in run.batches if it.drop == number):
+    for batch, _ in run.gone[number] if number is not None else []:
         low, high = batch * network.drops[number].length, (batch + 1) * network.drops[number].length
         if spans and spans[-1][1] == low:
             low = spans.pop()[0]

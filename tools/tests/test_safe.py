@@ -159,10 +159,11 @@ class Records(Safe):
 
     def test_numbers_are_those_that_a_run_writes(self):
         for row in ("o,1_0,a,1", "o,+1,a,1", "o,١,a,1", "o,1,a,+7", "o,1,a,1_0", "o,1,a,٣", "o,1,a,9223372036854775808", "o,1099511627776,a,1", "o,1,a,1\ro,2,b,1", 'o,1,"a"b,1',
-                    "@drop,-1,1,50", "@drop,0,1,50", "@plan,1,2,3,4,neither", "@plan,9", "@box,s,x", "@late,s,1,1", "@end,1", "@end", "o,1," + "x" * 200_000 + ",1"):
+                    "@drop,-1,1,50", "@drop,0,1,50", "@plan,1,2,3,4,neither", "@plan,9", "@box,s,x", "@late,s,1,1", "@end,1", "@end",
+                    "@plan,2,9,8,1,fits\n@plan,2,9,8,1,fits", "@late,s,1", "o,1," + "x" * 200_000 + ",1"):
             self.put("t", f"{row}\no,5,a,1\n@end\n")
             with self.subTest(row=row[:40]):
-                self.refused("a line|none that a run writes|drop|has no", "output", "--csv", "out", "n.toml", "t")
+                self.refused("a line|none that a run writes|drop|has no|no BSort", "output", "--csv", "out", "n.toml", "t")
         self.assertFalse(os.path.exists(f"{self.room}/out"))
 
 
@@ -217,6 +218,19 @@ class Nothing_hangs(Safe):
         self.assertLess(os.times().children_user - before, 3)
 
 
+    def test_ways_that_part_and_meet_again_are_gone_once(self):
+        boxes, taken = "", "s"
+        for at in range(60):
+            boxes += f'[[box]]\nname = "f{at}"\nkind = "filter"\nin = ["{taken}"]\nwhere = ["v > {at}"]\n[[box]]\nname = "u{at}"\nkind = "union"\nin = ["f{at}.1", "f{at}.2"]\n'
+            taken = f"u{at}"
+        boxes += f'[[box]]\nname = "j"\nkind = "join"\nin = ["{taken}", "s"]\nsize = 0\non = "l_v < r_v"\n'
+        self.put("n.toml", SOURCE + boxes + OUTPUT.replace('"s"', '"j"'))
+        self.put("s.csv", "1,a,1\n")
+        self.put("t", "".join(f"@box,{kind}{at},1\n" for at in range(60) for kind in "fu") + "@box,j,2\n@end\n")
+        for words in (("explain", "--hints", "n.toml", "t"), ("report", "n.toml", "t", "page"), ("plan", "--load", "n.toml")):
+            self.assertEqual(self.ran(*words, stdin=None).returncode, 0)
+
+
 class Terminals(Safe):
     def test_what_is_shown_of_data_is_printable(self):
         self.put("n.toml", SOURCE.replace('"k:text", ', "") + OUTPUT)
@@ -264,6 +278,8 @@ class Lines(Safe):
         self.put("long.csv", "t,x\n1," + "y" * 200_000 + "\n")
         self.refused("255|field", "stream", "--time", "t", "long.csv", "x.csv")
         self.refused("/nonexist: No such file", "explain", "--program", "/nonexist", "n.toml")
+        self.put("scale.toml", f"# v: x times 1{'0' * 5000}\n{PAIRS}")
+        self.assertEqual(self.ran("explain", "--hints", "scale.toml").returncode, 0)
         self.put("t", "o,1,ä,1\n@end\n")
         self.assertIn(b"\xc3\xa4", self.ran("report", "n.toml", "t", "-", env={**os.environ, "LC_ALL": "C", "PYTHONIOENCODING": "latin-1"}).stdout)
 
