@@ -27,8 +27,10 @@ def version():
 
 def columns(stream, otherwise):
     """Returns how wide the terminal is that a stream goes to: COLUMNS, or what the terminal says, or where there is none this."""
+    if is_between(told := os.environ.get("COLUMNS", ""), 1, 10_000):
+        return max(30, int(told))
     with contextlib.suppress(ValueError, OSError):
-        return max(30, int(os.environ.get("COLUMNS", 0)) or os.get_terminal_size(stream.fileno()).columns)
+        return max(30, os.get_terminal_size(stream.fileno()).columns)
     return otherwise
 
 
@@ -101,6 +103,20 @@ def parsed(made):
     if answered(made.prog, made.description, sys.argv[1:]):
         sys.exit(0)
     return made.parse_args()
+
+
+def is_between(text, least, most):
+    """Says whether a text is a whole number as the program takes one, which has digits alone, from the least to the most."""
+    return text.isascii() and text.isdigit() and len(text) <= 20 and least <= int(text) <= most
+
+
+def whole(least, most):
+    """Returns what reads such a number among the words of a tool."""
+    def read(text):
+        if not is_between(text, least, most):
+            raise argparse.ArgumentTypeError(f"`{text}` is no whole number from {least:,} to {most:,}")
+        return int(text)
+    return read
 
 
 def clean(text):
@@ -213,22 +229,47 @@ def written(path, *inputs):
         yield file
 
 
-@contextlib.contextmanager
-def beside(path):
-    """Gives the name of a file that is made beside another; where the block ends well it takes its place, with its rights, and else it goes."""
-    path = os.path.realpath(path)
+def usual_mode():
+    """Returns the rights that a new file has."""
     mask = os.umask(0)
     os.umask(mask)
-    mode = stat.S_IMODE(os.stat(path).st_mode) if os.path.exists(path) else 0o666 & ~mask
+    return 0o666 & ~mask
+
+
+@contextlib.contextmanager
+def aside(path):
+    """Gives a name beside a file for one that is made, which goes at the end where it still has this name."""
     # The name is chosen before the file is there, so that whatever interrupts this finds what to take away.
     name = os.path.join(os.path.dirname(path), f".{os.path.basename(path)[:40]}.{os.getpid()}.{secrets.token_hex(4)}")
     try:
         yield name
-        os.chmod(name, mode)
-        os.replace(name, path)
-    except BaseException as why:
-        with contextlib.suppress(FileNotFoundError):
-            os.unlink(name)
-        if isinstance(why, OSError) and why.filename in (None, name):
+    except OSError as why:
+        if why.strerror and why.filename in (None, name):
             raise OSError(why.errno, why.strerror, path) from None
         raise
+    finally:
+        with contextlib.suppress(FileNotFoundError):
+            os.unlink(name)
+
+
+@contextlib.contextmanager
+def beside(path):
+    """Gives the name of a file that is made beside another; where the block ends well it takes its place, with its rights, and else it goes."""
+    path = os.path.realpath(path)
+    mode = stat.S_IMODE(os.stat(path).st_mode) if os.path.exists(path) else usual_mode()
+    with aside(path) as name:
+        yield name
+        os.chmod(name, mode)
+        os.replace(name, path)
+
+
+def place(name, path):
+    """Gives a file that was made aside its own name, where nothing has it, not even since a moment ago."""
+    os.chmod(name, usual_mode())
+    try:
+        os.link(name, path)
+    except OSError as why:
+        if os.path.lexists(path) or isinstance(why, FileExistsError):
+            raise FileExistsError(f"{path} is there already") from None
+        # There are disks on which no file has two names.
+        os.rename(name, path)

@@ -1,12 +1,9 @@
 """The words of `aurora run`, and why some are no command."""
 from .finding import near
+from .front import is_between
 
 NUMBERS = {"--seed": (0, (1 << 64) - 1), "--train": (1, 4096), "--frames": (2, 16_384)}
 OPTIONS = ("--capacities", "--seed", "--policy", "--picks", "--train", "--frames")
-
-
-def is_between(text, least, most):
-    return text.isascii() and text.isdigit() and len(text) <= 20 and least <= int(text) <= most
 
 
 HELP = "`man aurora` is its help, and `aurora-explain --version` tells the version"

@@ -1,8 +1,8 @@
 """The rules of joining a query to a stream, and the words of a tap."""
 from .finding import Finding, counted, near, shown_fields
+from .front import is_between
 from .network import Network, read
 from .places import line_and_column
-from .run_words import is_between
 
 MOST = (1 << 40) - 1
 

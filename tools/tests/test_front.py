@@ -55,6 +55,14 @@ class Front(unittest.TestCase):
                     self.assertEqual((said.returncode, said.stdout), (2, ""))
                     self.assertRegex(said.stderr, rf"\A{name}: [^\n]*; aurora-{name} --help tells more\n\Z")
 
+    def test_a_number_among_the_words_has_digits_alone(self):
+        for words in (("plan", "--epoch", "{}", "n", "c", "t"), ("plan", "--seed", "{}", "n", "c", "t"), ("shard", "n.toml", "s=k", "{}")):
+            for number in ("1_0", "+7", " 7", "-1", "\u0663", "18446744073709551616", ""):
+                with self.subTest(words=words, number=number):
+                    said = ran(*(it.format(number) for it in words))
+                    self.assertEqual((said.returncode, said.stdout), (2, ""))
+                    self.assertRegex(said.stderr, rf"\A{words[0]}: [^\n]*; aurora-{words[0]} --help tells more\n\Z")
+
     def test_a_reader_that_goes_away_makes_no_noise(self):
         for words in (("output", "--csv", "-", "--output", "lost", f"{DESK}/desk.toml", f"{DESK}/expected.txt"), ("plan", "--help"), ("stream", "--help"), ("explain", "--help")):
             with self.subTest(words=words):

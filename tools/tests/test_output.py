@@ -7,6 +7,7 @@ import sqlite3
 import subprocess
 import tempfile
 import unittest
+import unittest.mock
 
 import forked
 
@@ -28,6 +29,19 @@ class Outputs(unittest.TestCase):
         with open(f"{self.room}/a/lost.csv", encoding="utf-8") as table:
             self.assertEqual(table.read(), "time,symbol,price,loss\n34201,ABC,1049,1\n34207,XYZ,24990,5\n34230,ABC,1046,2\n34263,ABC,1052,2\n")
         self.assertEqual(sorted(os.listdir(f"{self.room}/a")), ["averages.csv", "lost.csv"])
+
+    def test_what_another_wrote_meanwhile_stays(self):
+        # The looks for what is there already have been passed.
+        for form, there, mine in (("csv", "a/lost.csv", "a"), ("sqlite", "db", "db")):
+            with self.subTest(form=form), unittest.mock.patch("os.path.lexists", side_effect=lambda path: False):
+                os.makedirs(f"{self.room}/a", exist_ok=True)
+                with open(f"{self.room}/{there}", "w", encoding="utf-8") as table:
+                    table.write("theirs")
+                said = self.made(form, f"{self.room}/{mine}", f"{TOP}/examples/desk/desk.toml", f"{TOP}/examples/desk/expected.txt")
+                self.assertEqual((said.returncode, said.stderr), (1, f"output: {self.room}/{there} is there already\n"))
+                with open(f"{self.room}/{there}", encoding="utf-8") as table:
+                    self.assertEqual(table.read(), "theirs")
+        self.assertEqual((os.listdir(f"{self.room}/a"), sorted(os.listdir(self.room))), (["lost.csv"], ["a", "db"]))
 
     def test_values_have_their_kinds_in_json(self):
         ran = self.made("jsonl", "-", f"{BOXES}/values.toml", f"{BOXES}/values.txt", "--output", "values")
