@@ -145,7 +145,7 @@ def gave_nothing(net, run):
             words = f"it left out {late:,} of {fed:,} tuples: they came too late for its slack of {box['slack']:,}, or `{box['by']}` is Null, negative or behind their tick"
             yield at(net, box_named(net, number) + words, "These are missing in all that is below it. A greater slack keeps what came too late; aurora-stream tells which suffices." if late < fed else "That is all of them.", "box", number, "slack")
         streams = network.ports(box)
-        if not fed or late or run.batches or any(it not in known for it in streams):
+        if not fed or late or any(it not in known for it in streams):
             continue
         if box["kind"] == "filter":
             for port, stream in enumerate(streams[:-1]):

@@ -182,11 +182,13 @@ def line_of(plan):
 
 
 def streams_told(net, run):
-    """Returns how many tuples each stream had in a full run, as far as its text tells by what was fed, late and shown."""
-    known = {it["from"]: len(run.shown(it)) for it in net.outputs}
+    """Returns how many tuples each stream had, as far as the text tells by what was fed, late and shown; nothing below a drop that left out batches."""
+    drops = [net.drops[number] for number, gone in run.gone.items() if gone]
+    boxes, outputs = ({it for drop in drops for it in getattr(drop, what)} for what in ("boxes", "outputs"))
+    known = {it["from"]: len(run.shown(it)) for number, it in enumerate(net.outputs) if number not in outputs}
     known |= {it["name"]: sum(1 for _ in rows_of(it["file"])) for it in net.sources if os.path.isfile(it["file"])}
     same = [(box["name"], box["in"][0]) for box in net.boxes if box["kind"] == "resample"]
-    told = [box for box in net.boxes if box["name"] in run.fed]
+    told = [box for number, box in enumerate(net.boxes) if box["name"] in run.fed and number not in boxes]
     sums = [(box["in"], run.fed[box["name"]]) for box in told]
     for box in told:
         if box["kind"] in ("filter", "map", "union", "bsort"):

@@ -1,16 +1,11 @@
 """What is taken out of a module, and what is put in, before it is compiled without a proof."""
-import importlib.machinery
-import importlib.util
 import os
-import sys
 import tempfile
 import unittest
 
-sys.dont_write_bytecode = True
-PATH = os.path.join(os.path.dirname(os.path.dirname(os.path.abspath(__file__))), "build")
-LOADER = importlib.machinery.SourceFileLoader("build_tool", PATH)
-build = importlib.util.module_from_spec(importlib.util.spec_from_loader("build_tool", LOADER))
-LOADER.exec_module(build)
+import loaded
+
+build = loaded.tool("build")
 
 SOURCE = """
 #[inline(always)]

@@ -1,17 +1,11 @@
 """Which licenses a package tells, of the program and of the libraries that are linked into it, read from a kit."""
-import importlib.machinery
-import importlib.util
-import os
 import pathlib
-import sys
 import tempfile
 import unittest
 
-sys.dont_write_bytecode = True
-TOOLS = os.path.dirname(os.path.dirname(os.path.abspath(__file__)))
-LOADER = importlib.machinery.SourceFileLoader("copyright_tool", os.path.join(TOOLS, "copyright"))
-tool = importlib.util.module_from_spec(importlib.util.spec_from_loader("copyright_tool", LOADER))
-LOADER.exec_module(tool)
+import loaded
+
+tool = loaded.tool("copyright")
 
 OWN = """SPDX-License-Identifier: Apache-2.0 OR MIT
 

@@ -1,18 +1,12 @@
 """What is made of a small list of crates, and where its order is broken."""
-import importlib.machinery
-import importlib.util
-import os
 import pathlib
-import sys
 import tempfile
 import unittest
 import unittest.mock
 
-sys.dont_write_bytecode = True
-PATH = os.path.join(os.path.dirname(os.path.dirname(os.path.abspath(__file__))), "crates")
-LOADER = importlib.machinery.SourceFileLoader("crates_tool", PATH)
-crates_tool = importlib.util.module_from_spec(importlib.util.spec_from_loader("crates_tool", LOADER))
-LOADER.exec_module(crates_tool)
+import loaded
+
+crates_tool = loaded.tool("crates")
 
 LIST = """# three in two groups
 

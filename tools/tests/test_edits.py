@@ -1,18 +1,12 @@
 """Which edits apply, what is laid into the room where they are tried, and what is told of the verdicts."""
-import importlib.machinery
-import importlib.util
-import os
 import pathlib
-import sys
 import tempfile
 import unittest
 import unittest.mock
 
-sys.dont_write_bytecode = True
-PATH = os.path.join(os.path.dirname(os.path.dirname(os.path.abspath(__file__))), "edits")
-LOADER = importlib.machinery.SourceFileLoader("edits_tool", PATH)
-edits = importlib.util.module_from_spec(importlib.util.spec_from_loader("edits_tool", LOADER))
-LOADER.exec_module(edits)
+import loaded
+
+edits = loaded.tool("edits")
 
 FILES = {
     "HANDLES": "Handles allowed: none.\n",

@@ -63,6 +63,7 @@ CASES = [
     ('version = 1\nepoch = 10\n', 'version = 1\nepoch = 10\n# v: price times 10000\n', S, T, None, "fields", "`v` has no scale, and in `s` it is times 10,000"),
     ('in = ["s", "t"]', 'in = ["s", "s"]', S, T, None, "[[source]]", "source 1, `t`: no output has anything of it"),
     ("", "", S, T.replace("10", "100010"), None, "[[box]]", "none is within 5 of another. Have they one unit, and one origin?"),
+    ("", "", S, T.replace("10", "100010"), "0,0\n", "[[box]]", "box 2, `j`, a join: it was fed 6 tuples and gave none"),
     ('[[output]]\nname = "o"\nfrom = "w"', BSORT, S, T, None, "slack", "left out 1 of 4 tuples"),
     ("epoch = 10", "epoch = 1000", S, T, "0,5\n", "", "all tuples lie in epoch 0"),
     ('[[output]]\nname = "o"\nfrom = "w"', BSORT, S, T, "0,5\n", "", "there is no drop point"),

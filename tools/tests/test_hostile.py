@@ -1,18 +1,12 @@
 """What hostile inputs are made of, and how their runs are judged."""
-import importlib.machinery
-import importlib.util
 import itertools
-import os
 import pathlib
-import sys
 import tempfile
 import unittest
 
-sys.dont_write_bytecode = True
-PATH = os.path.join(os.path.dirname(os.path.dirname(os.path.abspath(__file__))), "hostile_inputs")
-LOADER = importlib.machinery.SourceFileLoader("hostile_inputs", PATH)
-hostile = importlib.util.module_from_spec(importlib.util.spec_from_loader("hostile_inputs", LOADER))
-LOADER.exec_module(hostile)
+import loaded
+
+hostile = loaded.tool("hostile_inputs")
 
 
 class Inputs(unittest.TestCase):

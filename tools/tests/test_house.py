@@ -1,20 +1,15 @@
 """What the house's script finds in a small house."""
 import contextlib
-import importlib.machinery
-import importlib.util
 import io
-import os
 import pathlib
 import sys
 import tempfile
 import unittest
 import unittest.mock
 
-sys.dont_write_bytecode = True
-PATH = os.path.join(os.path.dirname(os.path.dirname(os.path.abspath(__file__))), "house")
-LOADER = importlib.machinery.SourceFileLoader("house", PATH)
-house = importlib.util.module_from_spec(importlib.util.spec_from_loader("house", LOADER))
-LOADER.exec_module(house)
+import loaded
+
+house = loaded.tool("house")
 
 FILES = {
     "crates.txt": "low:\nhigh: low spare\n",

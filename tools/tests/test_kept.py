@@ -1,18 +1,13 @@
 """Which libraries are taken from another checkout, and which lack there."""
-import importlib.machinery
-import importlib.util
 import os
 import pathlib
-import sys
 import tempfile
 import unittest
 import unittest.mock
 
-sys.dont_write_bytecode = True
-PATH = os.path.join(os.path.dirname(os.path.dirname(os.path.abspath(__file__))), "kept")
-LOADER = importlib.machinery.SourceFileLoader("kept_tool", PATH)
-kept = importlib.util.module_from_spec(importlib.util.spec_from_loader("kept_tool", LOADER))
-LOADER.exec_module(kept)
+import loaded
+
+kept = loaded.tool("kept")
 
 CRATES = ("low", "mid", "high")
 LONG_AGO, LATER = 1000, 2**33

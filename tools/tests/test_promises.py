@@ -1,18 +1,12 @@
 """Which links of a page lead nowhere, and where it counts other edits than there are."""
-import importlib.machinery
-import importlib.util
-import os
 import pathlib
-import sys
 import tempfile
 import unittest
 import unittest.mock
 
-sys.dont_write_bytecode = True
-PATH = os.path.join(os.path.dirname(os.path.dirname(os.path.abspath(__file__))), "promises")
-LOADER = importlib.machinery.SourceFileLoader("promises_tool", PATH)
-promises = importlib.util.module_from_spec(importlib.util.spec_from_loader("promises_tool", LOADER))
-LOADER.exec_module(promises)
+import loaded
+
+promises = loaded.tool("promises")
 
 
 class Pages(unittest.TestCase):

@@ -1,18 +1,13 @@
 """What the quick check says of steps that are well and of those that aren't, and that it never speaks of proofs that it doesn't have."""
 import contextlib
-import importlib.machinery
-import importlib.util
 import io
-import os
 import sys
 import unittest
 import unittest.mock
 
-sys.dont_write_bytecode = True
-PATH = os.path.join(os.path.dirname(os.path.dirname(os.path.abspath(__file__))), "quick")
-LOADER = importlib.machinery.SourceFileLoader("quick_tool", PATH)
-quick = importlib.util.module_from_spec(importlib.util.spec_from_loader("quick_tool", LOADER))
-LOADER.exec_module(quick)
+import loaded
+
+quick = loaded.tool("quick")
 
 
 class Said(unittest.TestCase):

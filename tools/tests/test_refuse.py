@@ -1,21 +1,15 @@
 """How runs are judged of which a request for memory was refused, and that each request is."""
 import contextlib
-import importlib.machinery
-import importlib.util
 import io
-import os
 import pathlib
 import shutil
 import subprocess
-import sys
 import tempfile
 import unittest
 
-sys.dont_write_bytecode = True
-PATH = os.path.join(os.path.dirname(os.path.dirname(os.path.abspath(__file__))), "refuse_memory")
-LOADER = importlib.machinery.SourceFileLoader("refuse_memory", PATH)
-refuse = importlib.util.module_from_spec(importlib.util.spec_from_loader("refuse_memory", LOADER))
-LOADER.exec_module(refuse)
+import loaded
+
+refuse = loaded.tool("refuse_memory")
 
 WHOLE = "@plan,1,8,0,8,fits\no,0,14\n@drop,0,1,1000\n@drop,1,1,50\no,12,54\n@box,a,11\n@end\n"
 NETWORK, MADE = refuse.CASES["drops"], refuse.CASES["gen"]
