@@ -84,7 +84,7 @@ class Outputs(unittest.TestCase):
         self.assertIn("pric:int.2: it is FIELD:int.N", self.lost("csv", "--field", "pric:int.2").stderr)
         self.assertIn("price:int: it is FIELD:int.N", self.lost("csv", "--field", "price:int").stderr)
         self.assertIn("symbol is no number", self.lost("csv", "--field", "symbol:time").stderr)
-        self.assertIn("is no time as 2026", self.lost("csv", "--field", "time:time", "--origin", "soon").stderr)
+        self.assertIn("is no time of ISO 8601, as 2026", self.lost("csv", "--field", "time:time", "--origin", "soon").stderr)
         self.assertIn("no time of the years", self.lost("csv", "--field", "time:time", "--tick", "d", "--origin", "9990-01-01").stderr)
 
     def refused(self, why, network, text):
