@@ -84,7 +84,12 @@ def cut(line, *_):
     return words, "A file whose lines end by it alone is mended by: tr '\\r' '\\n'", place if place >= 0 else None
 
 
-def number_of_fields(line, fields, kinds, _):
+def open_quote(line):
+    """Returns where a quote opens in a line that isn't closed in it, or None."""
+    return next((begin for _, begin in fields_of(line) if line[begin:begin + 1] == b'"' and not QUOTED_WHOLE.match(line, begin)), None)
+
+
+def number_of_fields(line, fields, kinds, before):
     names = ["the tick", *(f"`{name}`" for name, _ in kinds)]
     words = f"it has {counted(len(fields), 'field')}, and {listed(names)} make {len(names)}"
     for sign, written, said in ((b";", ";", "semicolons"), (b"\t", "\\t", "tabs"), (b"|", "|", "bars")):
@@ -96,9 +101,11 @@ def number_of_fields(line, fields, kinds, _):
         return words, "A stream has no remarks: take the line away by grep -v '^#'", 0
     if not line.strip():
         return words, "A line of blanks is no empty line: take it away by sed '/^[[:blank:]]*$/d'", 0
-    opened = next((begin for value, begin in fields if line[begin:begin + 1] == b'"' and not QUOTED_WHOLE.match(line, begin)), None)
+    opened = open_quote(line)
     if opened is not None:
         return words, "A quote opens here and isn't closed in this line. A text has no line feed, and a quote in it is written twice.", opened
+    if before and open_quote(before[-1]) is not None:
+        return words, "In the line before a quote opens that isn't closed there. A text has no line feed: put a blank in its place.", None
     return words, "What is missing is left empty, but its comma stands.", None
 
 

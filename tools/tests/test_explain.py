@@ -154,6 +154,7 @@ LINES = [
     ("# 4", "Fields", "no remarks"),
     ("  ", "Fields", "line of blanks"),
     ('4,"a,1,true', "Fields", "A quote opens here"),
+    ('4,a,1,"true\nb"', "Fields", "In the line before a quote opens"),
     ("4,a,1_000,true", "NotInt", "thousands"),
     ("4,a,1,true,x", "Fields", "5 fields"),
     ("x,a,1,true", "Tick", "`x`"),
@@ -234,9 +235,10 @@ class Mistakes(unittest.TestCase):
         for text, why, words in LINES:
             with self.subTest(text):
                 self.write("readings.csv", STREAM + text + "\n")
+                line = 4 + text.count("\n")
                 told, below = self.refused("plant.toml")
-                self.assertEqual(told, f"aurora: stream readings: line 4: {why}")
-                self.assertRegex(below, r"^  readings\.csv:4(:\d+)?: ")
+                self.assertEqual(told, f"aurora: stream readings: line {line}: {why}")
+                self.assertRegex(below, rf"^  readings\.csv:{line}(:\d+)?: ")
                 self.assertIn(words, below)
 
     def test_a_line_of_headings(self):
