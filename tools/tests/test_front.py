@@ -103,7 +103,7 @@ class Front(unittest.TestCase):
     def test_each_has_a_manual_page(self):
         with tempfile.TemporaryDirectory() as room:
             self.assertEqual(ran("pages", room, "1.2.3").returncode, 0)
-            self.assertEqual(sorted(os.listdir(room)), [f"aurora-{name}.1" for name in NAMES] + ["aurora_keys.1"])
+            self.assertEqual(sorted(os.listdir(room)), [f"aurora-{name}.1" for name in NAMES] + ["aurora_keys.1", "aurora_slices.1"])
             with open(f"{room}/aurora-stream.1", encoding="utf-8") as page:
                 text = page.read()
             for words in (".TH AURORA-STREAM 1 \"\" \"aurora 1.2.3\"", ".B \\-\\-version", ".SH SYNOPSIS", ".B \\-\\-time COLUMN", ".SH SEE ALSO"):
