@@ -5,7 +5,7 @@ import re
 from . import line_rules, meaning_rules, shape_rules
 from .finding import Finding, article, near
 from .front import clean
-from .network import KINDS, Network, Unreadable
+from .network import KINDS, TOO_WIDE, Network, Unreadable
 from .places import VALUE, line_and_column
 from .run_words import Words
 from .tap_rules import TapWords, tap_finding
@@ -160,11 +160,11 @@ def toml_finding(network):
         if network.bytes[:2] in (b"\xff\xfe", b"\xfe\xff"):
             return Finding("the file is UTF-16", "It is mended by: iconv -f UTF-16 -t UTF-8", network.path, 1)
         return Finding(words, "A file of another code is mended by: iconv -f LATIN1 -t UTF-8", network.path, line)
-    if not network.fault:
+    if network.fault in (None, TOO_WIDE):
         wide = re.search(r"\b[0-9][0-9_]{18,}\b", network.text)
         line, column = line_and_column(network.text, wide.start()) if wide else (0, None)
         text = network.text.split("\n")[line - 1] if wide else None
-        return Finding("a number has more than 64 bits" if wide else "this is no TOML document", "", network.path, line, text, column)
+        return Finding(TOO_WIDE if wide else "this is no TOML document", "", network.path, line, text, column)
     place = re.search(r" \(at (?:line (\d+), column (\d+)|(end of document))\)", network.fault)
     lines = network.text.rstrip("\n").split("\n")
     line = int(place[1]) if place and place[1] else len(lines)

@@ -27,6 +27,8 @@ OPTIONAL = {"top": ("epoch", "batch", "box"), "source": (), "box": ("cost", "sel
 MOST_TICKS_OF_A_BATCH = 1 << 34
 MOST_BATCHES_OF_A_REACH = 4096
 MOST_BYTES = 1_048_576
+# What is said of numbers that TOML has and that the program doesn't take.
+TOO_WIDE = "a number has more than 64 bits"
 BELOW_A_DROP = ("filter", "map", "union", "aggregate")
 
 
@@ -77,6 +79,8 @@ class Network:
             self.table = tomllib.loads(self.text)
         except (tomllib.TOMLDecodeError, RecursionError) as fault:
             self.fault = str(fault)
+        except ValueError:
+            self.fault = TOO_WIDE
 
     def tables(self, part):
         """Returns the tables of a part, where it is an array of tables."""

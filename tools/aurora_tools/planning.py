@@ -9,6 +9,7 @@ import re
 from . import network, run_text
 
 CAPACITY = re.compile(r"[0-9]{1,13},(?:-|[0-9]{1,24})")
+TICK = re.compile(rb"[0-9]{1,13}")
 MOST_RATE = 2**48
 MULTIPLIER, WORD = 6364136223846793005, 2**64
 Touched = collections.namedtuple("Touched", "batch level draw until")
@@ -38,7 +39,7 @@ def capacities_of(path):
 
 def tick_of(line):
     digits = line.partition(b",")[0].strip(b'"')
-    if not digits.isdigit():
+    if not TICK.fullmatch(digits):
         raise network.Unreadable(f"{line[:40].decode(errors='replace')} has no tick: aurora refuses the stream")
     return int(digits)
 

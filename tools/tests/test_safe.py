@@ -280,6 +280,11 @@ class Lines(Safe):
         self.refused("/nonexist: No such file", "explain", "--program", "/nonexist", "n.toml")
         self.put("scale.toml", f"# v: x times 1{'0' * 5000}\n{PAIRS}")
         self.assertEqual(self.ran("explain", "--hints", "scale.toml").returncode, 0)
+        for name, text in (("s.csv", "9" * 5000 + ",a,1\n"), ("c", "0,5\n"), ("wide.toml", PAIRS.replace("version = 1", "version = 1\nepoch = " + "9" * 5000))):
+            self.put(name, text)
+        self.refused("has no tick: aurora refuses the stream", "explain", "--hints", "n.toml", "--capacities", "c")
+        self.refused("aurora refuses this network: Toml: a number has more than 64 bits", "explain", "--hints", "wide.toml")
+        self.assertIn("wide.toml:2:9: a number has more than 64 bits", self.ran("explain", "--program", PROGRAM, "wide.toml").told)
         self.put("t", "o,1,ä,1\n@end\n")
         self.assertIn(b"\xc3\xa4", self.ran("report", "n.toml", "t", "-", env={**os.environ, "LC_ALL": "C", "PYTHONIOENCODING": "latin-1"}).stdout)
 
