@@ -55,7 +55,7 @@ failed=0
 # offers WANTED LINE: what is offered at the end of a line, in the order of letters.
 offers() {
     local said
-    said=$(timeout 20 zsh -f "$room/outer" "$room/inner" "$2")
+    said=$(timeout 300 zsh -f "$room/outer" "$room/inner" "$2")
     if [ "$said" != "$1" ]; then
         echo "$2: '$said' for '$1'"
         failed=1

@@ -264,7 +264,7 @@ class Mistakes(unittest.TestCase):
         os.unlink("readings.csv")
         os.mkfifo("readings.csv")
         run = subprocess.run([f"{os.path.dirname(HERE)}/explain", "--messages", "-", "plant.toml"], input="aurora: stream readings: line 1: Fields\n",
-                             capture_output=True, encoding="utf-8", timeout=20)
+                             capture_output=True, encoding="utf-8", timeout=300)
         self.assertIn("is no file and can't be read again", run.stdout)
 
     def test_nothing_reaches_a_terminal_that_is_not_printable(self):

@@ -31,12 +31,13 @@ sys.dont_write_bytecode = True
 from aurora_tools import front, graph, messages, network  # noqa: E402
 
 PROGRAM = os.environ.get("AURORA", "aurora")
-SEED, MOST_SECONDS = 20261201, 6
+# A tool hangs that takes so many seconds of a processor, or so many by the clock, however busy the machine is.
+SEED, MOST_SECONDS, MOST_BY_THE_CLOCK = 20261201, 6, 300
 KINDS = ("network", "text", "capacities", "table", "stream")
 SPICE = [
     b'"', b"'", b"\n", b"\r", b"\0", b",", b"@", b"-", b"[", b"]", b"{", b"=", b".", b"\\", b"\xff", b"\xe2\x80\xae", b"\x1b[2J", b"99999999999999999999", b"1e9", b"-1", b"0", b"1_0", b"+7",
     b" ", b'"""', b"true", b"nan", b"@end\n", b"@drop,0,1,50\n", b"@drop,-1,1,50\n", b"@plan,1,2,3,4,fits\n", b"@box,a,1\n", b"9" * 30, b"\xd9\xa3", b"9" * 400, b"inf",
-    b"version = 2\n", b"phase = 1\n", b"[[box]]\n", b'weight = "a"\n', b"epoch = 0\n", b"batch = -1\n", b"1.5", b"1979-05-27", b"../../x", b"</svg><script>", b"1099511627776", b"null", b"\xed\xa0\x80",
+    b"version = 2\n", b"phase = 1\n", b"[[box]]\n", b'weight = "a"\n', b"epoch = 0\n", b"batch = -1\n", b"1.5", b"1979-05-27", b"../../x", b"</svg><script>", b"1099511627776", b"null", b"\xed\xa0\x80", b"9" * 5000,
 ]
 PLACE = re.compile(rb'\d+|"[^"\n]*"')
 
@@ -91,6 +92,18 @@ def read(path):
         return file.read()
 
 
+@contextlib.contextmanager
+def in_time():
+    """Raises Hang in a block that doesn't end in its time."""
+    signal.setitimer(signal.ITIMER_PROF, MOST_SECONDS)
+    signal.setitimer(signal.ITIMER_REAL, MOST_BY_THE_CLOCK)
+    try:
+        yield
+    finally:
+        signal.setitimer(signal.ITIMER_PROF, 0)
+        signal.setitimer(signal.ITIMER_REAL, 0)
+
+
 class Mutants:
     """Networks of examples/ with what their runs write, and a room in which changed files lie."""
 
@@ -118,9 +131,8 @@ class Mutants:
         out, err = io.TextIOWrapper(io.BytesIO(), encoding="utf-8"), io.StringIO()
         before, sys.argv = os.getcwd(), [name, *words]
         os.chdir(folder)
-        signal.setitimer(signal.ITIMER_REAL, MOST_SECONDS)
         try:
-            with contextlib.redirect_stdout(out), contextlib.redirect_stderr(err):
+            with in_time(), contextlib.redirect_stdout(out), contextlib.redirect_stderr(err):
                 status = main() or 0
         except SystemExit as end:
             status = 0 if end.code is None else end.code if isinstance(end.code, int) else 1
@@ -131,7 +143,6 @@ class Mutants:
         except BaseException:  # noqa: B902
             status = self.fault(name, words, traceback.format_exc())
         finally:
-            signal.setitimer(signal.ITIMER_REAL, 0)
             os.chdir(before)
         if status not in (0, 1, 2, None):
             self.fault(name, words, f"it ended with {status}")
@@ -197,16 +208,15 @@ class Mutants:
         ran = subprocess.run([PROGRAM, "run", net, *words], cwd=folder, capture_output=True, stdin=subprocess.DEVNULL)
         before = os.getcwd()
         os.chdir(folder)
-        signal.setitimer(signal.ITIMER_REAL, MOST_SECONDS)
         try:
-            for message in messages.messages_in([net, *words], ran.stderr.decode(errors="replace"), True):
-                said = messages.explained([net, *words], message)
-                if not all(it.isprintable() or it == "\n" for it in said):
-                    self.fault("explain", words, f"it sends {said!r}")
+            with in_time():
+                for message in messages.messages_in([net, *words], ran.stderr.decode(errors="replace"), True):
+                    said = messages.explained([net, *words], message)
+                    if not all(it.isprintable() or it == "\n" for it in said):
+                        self.fault("explain", words, f"it sends {said!r}")
         except (Hang, Exception):  # noqa: B902
             self.fault("explain", words, traceback.format_exc())
         finally:
-            signal.setitimer(signal.ITIMER_REAL, 0)
             os.chdir(before)
         self.ends["messages", ran.returncode] += 1
 
@@ -242,8 +252,9 @@ def run(count, seed):
     def hang(*_):
         raise Hang
 
-    signs = {sign: signal.getsignal(sign) for sign in (signal.SIGALRM, signal.SIGTERM, signal.SIGHUP, signal.SIGINT)}
-    signal.signal(signal.SIGALRM, hang)
+    signs = {sign: signal.getsignal(sign) for sign in (signal.SIGALRM, signal.SIGPROF, signal.SIGTERM, signal.SIGHUP, signal.SIGINT)}
+    for sign in (signal.SIGALRM, signal.SIGPROF):
+        signal.signal(sign, hang)
     which = shutil.which
     graph.shutil.which = lambda name, *more: None if name == "dot" else which(name, *more)
     try:

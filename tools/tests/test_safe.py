@@ -47,7 +47,7 @@ class Safe(unittest.TestCase):
     def ran(self, tool, *words, **more):
         """Runs a tool in the room, as a program where more is asked than its words; it must tell a line where it fails, and no traceback."""
         if more:
-            done = subprocess.run([f"{TOP}/tools/{tool}", *words], cwd=self.room, capture_output=True, timeout=60, **{"stdin": subprocess.DEVNULL, **more})
+            done = subprocess.run([f"{TOP}/tools/{tool}", *words], cwd=self.room, capture_output=True, timeout=300, **{"stdin": subprocess.DEVNULL, **more})
             done.told = done.stderr.decode(errors="backslashreplace")
         else:
             done = forked.run([f"{TOP}/tools/{tool}", *words], cwd=self.room)

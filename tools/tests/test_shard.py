@@ -518,7 +518,7 @@ class Parts(unittest.TestCase):
 
     def await_free(self, work):
         """Waits until what ran here of a run that was killed has ended too: well before its minute is over."""
-        until = time.monotonic() + 20
+        until = time.monotonic() + 50
         while time.monotonic() < until:
             try:
                 return os.close(parts.locked(work))
