@@ -2,6 +2,7 @@
 """Slices of time make the text of the whole run, output by output, with its plans and drops; what can't be sliced is refused by name."""
 import json
 import os
+import pty
 import shutil
 import subprocess
 import sys
@@ -192,6 +193,15 @@ class Slices(unittest.TestCase):
         for output in ("asked", "slowing", "up"):
             self.assertGreater(len(of_output(output, whole)), 1)
             self.assertEqual(of_output(output, made), of_output(output, whole))
+
+    def test_a_terminal_is_shown_how_many_have_ended(self):
+        self.write_streams()
+        terminal, end = pty.openpty()
+        words = [f"{TOP}/tools/shard", "--time", "--program", PROGRAM, "--slicer", SLICES, "--slices", "3", "net.toml"]
+        subprocess.run(words, cwd=self.room, stdout=subprocess.DEVNULL, stderr=end, check=True)
+        os.close(end)
+        self.assertEqual(os.read(terminal, 4096).decode(), "".join(f"\r\x1b[Kshard: {count} of 3 parts have ended" for count in (1, 2)) + "\r\x1b[K")
+        os.close(terminal)
 
     # ---- what can't be sliced
 
