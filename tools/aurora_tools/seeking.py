@@ -14,8 +14,8 @@ TICK = re.compile(rb"[0-9]{1,13}")
 class Stream:
     """The file of a source. Offsets are of lines' begins: a mark of byte order at the start is passed over."""
 
-    def __init__(self, name, path):
-        self.name, self.path = name, path
+    def __init__(self, name, path, earlier=()):
+        self.name, self.path, self.earlier = name, path, earlier
         self.file = os.open(path, os.O_RDONLY)
         self.state = self.state_now()
         self.size = self.state[0]
@@ -96,6 +96,12 @@ class Stream:
         return sum(block.count(b"\n") for block in self.blocks(0, at))
 
     def refuse(self):
+        """Stops where the lines of a file aren't as a bisection has seen them: the first source with such a line is told."""
+        for stream in (*self.earlier, self):
+            stream.look_at_lines()
+        raise Stop(f"{self.path} was changed while it was cut")
+
+    def look_at_lines(self):
         """Stops with the first line whose place is one that a run refuses: a tick that is none, one that falls, a mark of byte order."""
         before = 0
         with open(self.path, "rb") as lines:
@@ -109,7 +115,6 @@ class Stream:
                 if why:
                     raise Stop(f"stream {self.name}: line {number}: {why}", 6)
                 before = tick
-        raise Stop(f"{self.path} was changed while it was cut")
 
 
 def tick_of(line):

@@ -36,7 +36,9 @@ class Sources:
         for source in sources:
             files.setdefault(os.path.normpath(source["file"]), source)
         self.paths = [source["file"] for source in files.values()]
-        self.streams = [Stream(source["name"], source["file"]) for source in files.values()]
+        self.streams = []
+        for source in files.values():
+            self.streams.append(Stream(source["name"], source["file"], tuple(self.streams)))
         self.least = [1 + len(source["fields"]) for source in files.values()]
 
     def close(self):
@@ -98,8 +100,8 @@ class Cutter:
                 yield cut
                 end, count = cut, count + 1
             else:
-                # The next cut, behind more bytes than that.
-                count = -(-(self.bytes_before(self.grid.behind(end)) - base) // size)
+                # The next cut, behind more bytes than that, unless ticks fall.
+                count = max(count + 1, -(-(self.bytes_before(self.grid.behind(end)) - base) // size))
         yield None
 
     def cuts(self, begin, size):
@@ -109,12 +111,19 @@ class Cutter:
             while (fits := self.fitting(begin, end)) != end:
                 begin = fits
                 found.append(begin)
+                self.look_at_count(found)
             if end is not None:
                 begin = end
                 found.append(begin)
-            if len(found) >= MOST_SLICES:
-                raise Stop(f"there would be over {MOST_SLICES:,} slices: give them more bytes by --bytes")
+                self.look_at_count(found)
         return found
+
+    def look_at_count(self, found):
+        """Stops where there are too many slices, which there may be since ticks fall."""
+        if len(found) >= MOST_SLICES:
+            for stream in self.streams:
+                stream.look_at_lines()
+            raise Stop(f"there would be over {MOST_SLICES:,} slices: give them more bytes by --bytes")
 
     def fitting(self, begin, end):
         """Returns the end of a slice that begins at a tick, or a cut before it where with all that it reaches a source would be over a run's limits;
