@@ -1,10 +1,9 @@
 """Which networks the program accepts: its rules on network files, in its order, so that no tool goes on with one that it refuses."""
 from . import expression, shape_rules
-from .network import FIELD_KINDS, MOST_BATCHES_OF_A_REACH, MOST_TICKS_OF_A_BATCH, is_name, ports
+from .network import FIELD_KINDS, MOST_BATCHES_OF_A_REACH, MOST_TICKS_OF_A_BATCH, NUMBERS_OF, is_name, ports
 
 MOST_WINDOW, MOST_WINDOWS = 1 << 32, 4096
 MOST_FIELDS, MOST_POINTS = 16, 21
-NUMBERS_OF = ("sum", "avg")
 
 
 def refusal(network):

@@ -11,6 +11,8 @@ from .places import Places
 WORDS = ("and", "or", "not", "is", "null", "true", "false", "time")
 NAME = re.compile(r"[a-z][a-z0-9_]{0,31}")
 FUNCTIONS = ("count", "sum", "avg", "min", "max", "first", "last")
+# Those that answer a number whatever their field is, and those that take numbers alone.
+NUMBER_ANSWERS, NUMBERS_OF = ("count", "sum", "avg"), ("sum", "avg")
 FIELD_KINDS = ("int", "bool", "text")
 KINDS = {
     "filter": ("where",),
@@ -248,7 +250,7 @@ def given_fields(box, taken):
 
 def answers(give, fields):
     """Returns the names of an Aggregate's functions and the kinds of their answers."""
-    return {name: "int" if function in ("count", "sum", "avg") else fields.get(field[0]) for name, function, *field in give}
+    return {name: "int" if function in NUMBER_ANSWERS else fields.get(field[0]) for name, function, *field in give}
 
 
 def read(path):

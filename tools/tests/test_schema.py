@@ -91,6 +91,16 @@ class Networks(unittest.TestCase):
         listed = {name for names in re.findall(r'"enum": \[([^\]]*"sum"[^\]]*)\]', text) for name in re.findall(r'"(\w+)"', names)}
         self.assertEqual(listed | {"count"}, set(network.FUNCTIONS))
 
+    def test_the_tools_know_what_the_functions_of_the_reference_answer(self):
+        rows = pathlib.Path(TOP, "docs/REFERENCE.md").read_text(encoding="utf-8").partition("| Function | Answer")[2].partition("\n\n")[0].splitlines()[2:]
+        kinds = {word: row.split("|")[3].strip() for row in rows for word in re.findall(r"`(\w+)`", row.split("|")[1])}
+        self.assertEqual(set(kinds), set(network.FUNCTIONS))
+        for word, kind in kinds.items():
+            with self.subTest(word):
+                told = network.answers([["it", word, "note"]], {"note": "text"})["it"]
+                self.assertEqual(told, "text" if kind == "that of the field" else "int")
+                self.assertEqual("of a field of the kind `int`" in kind, word in network.NUMBERS_OF)
+
     def test_a_word_that_is_not_known_is_no_schema(self):
         with self.assertRaises(Unknown):
             Schema({"maxProperties": 3}).fits({})
