@@ -64,15 +64,15 @@ class Recipes(unittest.TestCase):
         self.same(self.shown("percentile", "p95", answers_ms=rows), [(*key, len(it), sorted(it)[math.ceil(0.95 * len(it)) - 1]) for key, it in times.items()])
 
     def test_sessions(self):
-        rows = [(tick, at, user) for at, (tick, user) in enumerate(self.drawn(400, 900, "abcdef"), 1)]
+        rows = self.drawn(400, 900, "abcdef")
         last, sessions = {}, []
-        for tick, _, user in rows:
+        for tick, user in rows:
             if user not in last or tick - last[user][-1] > 1800:
                 last[user] = []
                 sessions.append((user, last[user]))
             last[user].append(tick)
-        whole = [(it[0], user, len(it), it[-1] - it[0]) for user, it in sessions]
-        self.assertLessEqual(max(it[3] for it in whole), 14400)
+        whole = [(it[0] // 1800 * 1800, user, it[0], len(it), it[-1] - it[0]) for user, it in sessions]
+        self.assertLessEqual(max(it[-1] for it in whole), 12600)
         self.same(self.shown("sessions", "sessions", clicks=rows), whole)
 
     def test_hysteresis(self):
