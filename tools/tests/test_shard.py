@@ -1,5 +1,6 @@
 #!/usr/bin/env python3
 """What parts make is what the whole run makes, and a network that has no such parts is refused by name."""
+import contextlib
 import csv
 import io
 import json
@@ -10,8 +11,11 @@ import subprocess
 import sys
 import tempfile
 import time
+import types
 import unittest
 import unittest.mock
+
+import loaded
 
 TOP = os.path.dirname(os.path.dirname(os.path.dirname(os.path.abspath(__file__))))
 sys.path.insert(0, f"{TOP}/tools")
@@ -196,6 +200,19 @@ class Parts(unittest.TestCase):
         self.compare(self.shard("--merge", "parts"), self.whole())
         said = self.shard("--slurm", "--resume", "net.toml", "trades=symbol", "4")
         self.assertEqual(said.stdout, f"{TOP}/tools/shard --merge parts\n")
+
+    def test_a_task_runs_several_parts_where_slurm_takes_fewer_tasks(self):
+        left = [0, 2, 3, 4, 1000, 1003, 2003]
+        for part in left:
+            os.makedirs(f"{self.room}/parts/part-{part}")
+            self.script(f"parts/part-{part}/run", f"echo {part} >>ran; exit {10 * (part == 1003)}")
+        with contextlib.redirect_stdout(io.StringIO()):
+            loaded.tool("shard").slurm_job(types.SimpleNamespace(work=f"{self.room}/parts"), left)
+        with open(f"{self.room}/parts/job", encoding="utf-8") as job:
+            self.assertIn("\n#SBATCH --array=0,2-4\n", job.read())
+        ended = [subprocess.run(["sh", "parts/job"], cwd=self.room, env={**os.environ, "SLURM_ARRAY_TASK_ID": task}).returncode for task in "0234"]
+        with open(f"{self.room}/parts/ran", encoding="utf-8") as ran:
+            self.assertEqual((ended, ran.read().split()), ([0, 0, 10, 0], ["0", "1000", "2", "3", "1003", "2003", "4"]))
 
     def test_parts_need_few_programs(self):
         os.mkdir(f"{self.room}/bin")
