@@ -194,6 +194,18 @@ class Slices(unittest.TestCase):
             self.assertGreater(len(of_output(output, whole)), 1)
             self.assertEqual(of_output(output, made), of_output(output, whole))
 
+    def test_a_plan_that_nothing_in_its_slice_follows_is_that_of_the_whole(self):
+        self.write("net.toml", TENS.replace("[[source]]", "epoch = 10\n[[source]]"))
+        self.write("capacity.csv", "0,0\n")
+        self.write("s.csv", "".join(f"{at},1\n" for at in (*range(20), *range(50, 70))))
+        words = ("--capacities", "capacity.csv", "net.toml")
+        made, whole = self.answer("--slices", "2", *words), self.whole(*words[2:], *words[:2])
+        self.assertEqual(json.loads(self.text("parts/plan.json"))["slices"]["begins"], [0, 50])
+        # The slice up to 50 has no tuple of its own in epoch 2 or behind it.
+        self.assertEqual([plan.split(",")[1] for plan in of_output("@plan", made)], ["1", "2", "6"])
+        for name in ("@plan", "@drop", "o"):
+            self.assertEqual(sorted(of_output(name, made)), sorted(of_output(name, whole)))
+
     def test_a_terminal_is_shown_how_many_have_ended(self):
         self.write_streams()
         terminal, end = pty.openpty()
