@@ -206,6 +206,21 @@ class Slices(unittest.TestCase):
         for name in ("@plan", "@drop", "o"):
             self.assertEqual(sorted(of_output(name, made)), sorted(of_output(name, whole)))
 
+    def test_a_batch_that_is_touched_from_far_behind_alone_is_told_as_dropped(self):
+        tens = TENS.replace("size = 10", "size = 15").replace('"s"]', '"some.1"]').replace("[[source]]", "epoch = 10\n[[source]]").replace('from = "tens"', 'from = "sums"')
+        self.write("net.toml", tens + '[[output]]\nname = "rest"\nfrom = "some.2"\n[[box]]\nname = "some"\nkind = "filter"\nin = ["s"]\nwhere = ["v > 0"]\n'
+                   '[[box]]\nname = "sums"\nkind = "aggregate"\nin = ["tens"]\nsize = 15\nadvance = 10\ngive = [["sum", "sum", "sum"]]\n')
+        self.write("capacity.csv", "0,0\n")
+        ones = [[f"{at},1\n" for at in ticks] for ticks in (range(40), range(68, 99))]
+        self.write("s.csv", "".join([*ones[0], "50,0\n", "68,0\n", *ones[1]]))
+        words = ("--capacities", "capacity.csv", "net.toml")
+        made, whole = self.answer("--bytes", "190", *words), self.whole(*words[2:], *words[:2])
+        self.assertEqual(json.loads(self.text("parts/plan.json"))["slices"]["begins"][1], 50)
+        # What is kept for batch 4, of ticks 40 to 49, goes on up to 68, where the first tuple is that comes to the drop.
+        self.assertIn("@drop,0,4,1000\n", made)
+        for name in ("@plan", "@drop", "o", "rest"):
+            self.assertEqual(sorted(of_output(name, made)), sorted(of_output(name, whole)))
+
     def test_a_terminal_is_shown_how_many_have_ended(self):
         self.write_streams()
         terminal, end = pty.openpty()
