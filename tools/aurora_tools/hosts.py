@@ -30,8 +30,8 @@ ROOM = ".aurora-parts"
 # What reads the open end ends all of them when it is closed.
 WATCH = '{ read -r end; kill -s TERM 0; } <&3 >/dev/null 2>&1 & watch=$!; exec 3<&-; wait $job; ended=$?; '
 HERE = 'exec 3<&0; sh "$1" </dev/null 3<&- & job=$!; ' + WATCH + "kill $watch; exit $ended"
-THERE = ('umask 077; room=$HOME/%(room)s; watch=; job=; end() { [ -z "$watch" ] || kill $watch; [ -z "$job" ] || wait $job; cd; rm -rf "$room"; } 2>/dev/null; '
-         'trap end EXIT; trap "trap : TERM; kill -s TERM 0; exit 143" HUP INT TERM PIPE; mkdir -p "$room" && cd "$room" && echo %(token)s && head -c %(size)d | tar -xf - || exit 125; '
+THERE = ('umask 077; room=$HOME/%(room)s; watch=; job=; end() { [ -z "$watch" ] || kill $watch; [ -z "$job" ] || wait $job; cd; rm -rf "$room"; rmdir "${room%%/*}" "${room%%/*/*}"; } '
+         '2>/dev/null; trap end EXIT; trap "trap : TERM; kill -s TERM 0; exit 143" HUP INT TERM PIPE; mkdir -p "$room" || mkdir -p "$room" && cd "$room" && echo %(token)s && head -c %(size)d | tar -xf - || exit 125; '
          "exec 3<&0; sh %(part)s/run </dev/null 3<&- >/dev/null & job=$!; " + WATCH +
          "cd %(part)s && tar -cf - $(ls message out status 2>/dev/null); exit $ended")
 

@@ -461,6 +461,14 @@ class Parts(unittest.TestCase):
         self.assertGreater(len(modes), 12)
         self.assertEqual({mode[4:10] for mode in modes}, {"------"})
 
+    def test_a_folder_that_another_part_takes_away_meanwhile_is_made_again(self):
+        os.makedirs(f"{self.room}/bin")
+        self.script("bin/mkdir", f'[ -e "{self.room}/once" ] || {{ : >"{self.room}/once"; exit 1; }}\nexec {shutil.which("mkdir")} "$@"')
+        self.compare(self.far("--sshlogin", "1/one"), self.whole())
+        self.assertTrue(os.path.exists(f"{self.room}/once"))
+        self.assertEqual(len(self.asked("one")), 1 + 4 + 1)
+        self.nothing_left()
+
     def test_this_machine_takes_parts_too(self):
         self.compare(self.far("--sshlogin", "1/:,one"), self.whole())
         self.nothing_left()
@@ -523,7 +531,7 @@ class Parts(unittest.TestCase):
                 self.assertEqual((said, why, tool.returncode), ("", "" if sign == signal.SIGKILL else "shard: interrupted: --resume goes on\n", status))
                 if sign == signal.SIGKILL:
                     self.assertEqual(parts.hosts_of(f"{self.room}/parts"), ["one", "two"])
-                    self.await_free(f"{self.room}/parts")
+                    self.await_end()
                 else:
                     self.nothing_left()
                 self.script("slow", f'exec {PROGRAM} "$@"')
@@ -533,15 +541,16 @@ class Parts(unittest.TestCase):
                 os.remove(f"{self.room}/begun")
                 self.script("slow", f'touch "{self.room}/begun"; sleep 60; exec {PROGRAM} "$@"')
 
-    def await_free(self, work):
-        """Waits until what ran here of a run that was killed has ended too: well before its minute is over."""
+    def await_end(self):
+        """Waits until what ran of a run that was killed has ended too, here and on other machines, and keeps nothing there: well before its minute is over."""
         until = time.monotonic() + 50
         while time.monotonic() < until:
-            try:
-                return os.close(parts.locked(work))
-            except parts.Stop:
-                time.sleep(0.05)
-        self.fail("parts of a run that was killed go on")
+            with contextlib.suppress(parts.Stop):
+                os.close(parts.locked(f"{self.room}/parts"))
+                if not os.listdir(f"{self.room}/one") + os.listdir(f"{self.room}/two"):
+                    return
+            time.sleep(0.05)
+        self.fail("parts of a run that was killed go on, or have left something")
 
 
 if __name__ == "__main__":
