@@ -5,6 +5,7 @@ import csv
 import io
 import json
 import os
+import shlex
 import shutil
 import signal
 import subprocess
@@ -223,6 +224,14 @@ class Parts(unittest.TestCase):
         said = self.shard("--work", "far", "--sshlogin", "2/one", "net.toml", "trades=symbol", "4", PATH=f"{self.room}/bin")
         self.assertEqual((said.stderr, said.returncode), ("shard: --sshlogin needs ssh\n", 2))
         self.assertFalse(os.path.exists(f"{self.room}/far"))
+
+    def test_any_shell_may_call(self):
+        for name in filter(shutil.which, ("bash", "zsh", "fish", "tcsh")):
+            with self.subTest(shell=name):
+                words = [f"{TOP}/tools/shard", "--program", PROGRAM, "--keys", KEYS, "--work", name, "net.toml", "trades=symbol", "4"]
+                # It waits, since another command follows.
+                said = subprocess.run([name, "-c", f"{shlex.join(words)}; true"], cwd=self.room, capture_output=True, text=True)
+                self.compare(said, self.whole())
 
     def test_names_that_shells_and_tools_know_are_names(self):
         folder = f"{self.room}/a {{}} {{#}} 'b' $(c) %a"
