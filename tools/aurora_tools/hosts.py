@@ -26,12 +26,15 @@ GRACE = 5
 # A part is tried so often, and a machine given up when so many connections in a row didn't come about. So many are made to one at a time.
 TRIES, LOST, OPENING = 2, 2, 4
 ROOM = ".aurora-parts"
+# What tar says last, behind the reason.
+NO_REASON = ("Exiting with failure status due to previous errors", "Error is not recoverable: exiting now")
 # The words have no quote of this kind in them, no backslash and no line's end, so that each shell that is logged in to hands them on as they are.
 # What reads the open end ends all of them when it is closed.
 WATCH = '{ read -r end; kill -s TERM 0; } <&3 >/dev/null 2>&1 & watch=$!; exec 3<&-; wait $job; ended=$?; '
 HERE = 'exec 3<&0; sh "$1" </dev/null 3<&- & job=$!; ' + WATCH + "kill $watch; exit $ended"
-THERE = ('umask 077; room=$HOME/%(room)s; watch=; job=; end() { [ -z "$watch" ] || kill $watch; [ -z "$job" ] || wait $job; cd; rm -rf "$room"; rmdir "${room%%/*}" "${room%%/*/*}"; } '
-         '2>/dev/null; trap end EXIT; trap "trap : TERM; kill -s TERM 0; exit 143" HUP INT TERM PIPE; mkdir -p "$room" || mkdir -p "$room" && cd "$room" && echo %(token)s && head -c %(size)d | tar -xf - || exit 125; '
+THERE = ('umask 077; room=$HOME/%(room)s; watch=; job=; end() { [ -z "$watch" ] || kill $watch; [ -z "$job" ] || wait $job; cd; rm -rf "$room"; '
+         'rmdir "${room%%/*}" "${room%%/*/*}"; } 2>/dev/null; trap end EXIT; trap "trap : TERM; kill -s TERM 0; exit 143" HUP INT TERM PIPE; '
+         'mkdir -p "$room" || mkdir -p "$room" && cd "$room" && echo %(token)s && head -c %(size)d | tar -xf - || exit 125; '
          "exec 3<&0; sh %(part)s/run </dev/null 3<&- >/dev/null & job=$!; " + WATCH +
          "cd %(part)s && tar -cf - $(ls message out status 2>/dev/null); exit $ended")
 
@@ -256,7 +259,7 @@ class Runs:
                 process.stdout.close()
             if status or not came:
                 said.seek(0)
-                lines = said.read().decode(errors="replace").strip().splitlines()
+                lines = [it for it in said.read().decode(errors="replace").strip().splitlines() if not it.endswith(NO_REASON)]
                 drop_remains(f"{self.work}/{name}")
                 said_there = message_of(f"{self.work}/{name}").splitlines() if came else lines
                 ended = "the connection ended" if status == 255 else f"it ended with status {status}" if status else "it brought nothing back"

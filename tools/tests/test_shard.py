@@ -522,6 +522,15 @@ class Parts(unittest.TestCase):
         self.assertEqual((said.stdout, said.returncode), ("", 12))
         self.nothing_left()
 
+    def test_a_machine_whose_disk_is_full_is_named_with_the_reason(self):
+        os.makedirs(f"{self.room}/bin")
+        why = "echo tar: trades.csv: Cannot write: No space left on device; echo tar: Exiting with failure status due to previous errors"
+        self.script("bin/tar", f'case $PWD in */two/*) {{ {why}; }} >&2; exit 2;; esac\nexec {shutil.which("tar")} "$@"')
+        said = self.far("--sshlogin", "1/two,1/one")
+        self.assertRegex(said.stderr, r"^shard: host two failed \d parts? that ended well then: tar: trades.csv: Cannot write: No space left on device\n$")
+        self.compare(said.__class__(said.args, said.returncode, said.stdout, ""), self.whole())
+        self.nothing_left()
+
     def test_a_run_that_is_ended_leaves_nothing_and_is_gone_on_with(self):
         self.far("--work", "none", "--sshlogin", "none")
         self.script("slow", f'touch "{self.room}/begun"; sleep 60; exec {PROGRAM} "$@"')
