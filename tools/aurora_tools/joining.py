@@ -134,6 +134,13 @@ def box_line(marks, box, adds_up):
 def merge(work, answer, program, faults):
     """Writes what the parts make."""
     plan = read_plan(work)
+    try:
+        merge_parts(work, plan, answer, program, faults)
+    except (ValueError, IndexError):
+        raise Stop(f"{work} has a part whose `out` no run wrote: take the folder away and begin anew") from None
+
+
+def merge_parts(work, plan, answer, program, faults):
     folders = [f"{work}/part-{part}" for part in range(plan["parts"])]
     if "slices" in plan:
         return merge_slices(plan, folders, answer, program, faults)

@@ -412,6 +412,15 @@ class Parts(unittest.TestCase):
 
     # ---- putting together
 
+    def test_lines_that_no_run_writes_are_told(self):
+        self.shard("net.toml", "trades=symbol", "2")
+        with open(f"{self.room}/parts/part-1/out", encoding="utf-8") as text:
+            whole = text.read()
+        for line in ("means,8\u0663,h,1,1\n", "means,\n"):
+            self.write("parts/part-1/out", line + whole)
+            said = self.shard("--merge", "parts")
+            self.assertEqual((said.stderr, said.returncode), ("shard: parts has a part whose `out` no run wrote: take the folder away and begin anew\n", 2))
+
     def test_blocks_make_the_order_that_one_sort_makes(self):
         rows = [[b"o,%d,%d-%d\n" % (time, part, at) for at, time in enumerate(sorted(at * at * (part + 2) % 31 for at in range(count)))] for part, count in enumerate((40, 0, 1, 23, 40))]
         for part, some in enumerate(rows):
