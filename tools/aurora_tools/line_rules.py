@@ -16,6 +16,10 @@ OTHER_FORMS = (
     (b"PK\x03\x04", "a zip or a spreadsheet", "Unpack it, or save it as CSV."), (b"PAR1", "Parquet", "Write it as CSV before."),
     (b"\xff\xfe", "UTF-16", "It is mended by: iconv -f UTF-16 -t UTF-8"), (b"\xfe\xff", "UTF-16", "It is mended by: iconv -f UTF-16 -t UTF-8"),
 )
+# UTF-16 without a mark: of the first letters, which a stream has from ASCII, every other byte is 0.
+WIDE_LETTERS = ((re.compile(rb"(?:[^\0]\0){3}"), "UTF-16LE"), (re.compile(rb"(?:\0[^\0]){3}"), "UTF-16BE"))
+HEADINGS = "A stream has no line of headings: take it away by sed 1d, or make the stream by aurora-stream."
+IN_PARTS = "Run its parts, cut by time or by a key: aurora-shard. Or cut the file into several sources of the same fields and put them together by a Union."
 
 
 def lines_of(path):
@@ -52,7 +56,8 @@ def other_form(path):
     for magic, words, remedy in OTHER_FORMS:
         if begin.startswith(magic):
             return Finding(f"the file is {words}", remedy, path, 1)
-    return None
+    code = next((it for pattern, it in WIDE_LETTERS if pattern.match(begin)), None)
+    return Finding(f"the file is {code}", f"It is mended by: iconv -f {code} -t UTF-8", path, 1) if code else None
 
 
 def stream_finding(network, name, number, why):
@@ -72,8 +77,7 @@ def stream_finding(network, name, number, why):
 
 
 def too_many(*_):
-    remedy = "Run its parts, cut by a key: aurora-shard. Or cut the file into several sources of the same fields and put them together by a Union."
-    return "a source has at most 1,000,000 tuples, and this line would be one more", remedy, None
+    return "a source has at most 1,000,000 tuples, and this line would be one more", IN_PARTS, None
 
 
 def cut(line, *_):
@@ -95,8 +99,11 @@ def number_of_fields(line, fields, kinds, before):
     for sign, written, said in ((b";", ";", "semicolons"), (b"\t", "\\t", "tabs"), (b"|", "|", "bars")):
         if len(fields) == 1 and line.count(sign) >= len(kinds):
             return words, f"Fields are separated by commas, and here by {said}: tr '{written}' ','", line.find(sign)
+    if not any(before) and re.match(rb"[A-Za-z_]", line) and not any(WHOLE.fullmatch(value) for value, _ in fields):
+        return words, HEADINGS, 0
     if len(fields) > len(names):
-        return words, "A field with a comma in it stands in double quotes.", fields[len(names)][1]
+        numbers = " A number has none, neither between thousands nor before decimals." if any(kind == "int" for _, kind in kinds) else ""
+        return words, "A text with a comma in it stands in double quotes." + numbers, fields[len(names)][1]
     if line.lstrip()[:1] in (b"#", b"/"):
         return words, "A stream has no remarks: take the line away by grep -v '^#'", 0
     if not line.strip():
@@ -134,7 +141,7 @@ def tick(_, fields, __, before):
     elif value.strip() != value:
         remedy = "Blanks belong to a field: take them away."
     elif re.match(rb"[A-Za-z_]", value) and not any(before):
-        remedy = "A stream has no line of headings: take it away by sed 1d, or make the stream by aurora-stream."
+        remedy = HEADINGS
     else:
         remedy = "The first field of each line is the tick of arrival."
     return words, remedy, place

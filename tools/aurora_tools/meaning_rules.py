@@ -176,6 +176,10 @@ ELSEWHERE = {
     "select": "An expression is what stands behind WHERE in SQL, alone.",
 }
 ELSEWHERE |= {"when": ELSEWHERE["case"], "then": ELSEWHERE["case"], "else": ELSEWHERE["case"], "ilike": ELSEWHERE["like"], "matches": ELSEWHERE["like"], "nvl": ELSEWHERE["ifnull"]}
+TOGETHER = "Texts can't be put together: keep each in a field of its own."
+ELSEWHERE |= {"concat": TOGETHER} | dict.fromkeys(("substr", "substring", "upper", "lower", "trim"), "Texts can't be cut or changed: do it before, where the stream is made.")
+# The same behind a `not`.
+DENIED = ELSEWHERE | {"in": "There is no list of values: write `a <> 1 and a <> 2`.", "between": "Write both bounds: `a < 1 or a > 5`."}
 
 
 def why_unreadable(text, at, what):
@@ -206,14 +210,17 @@ def why_unreadable(text, at, what):
         return "comparisons don't chain", "Write `a < b and b < c`."
     guess = near(last, ("and", "or", "not", "is")) if last.isalpha() else ""
     words = f"an operator must stand between `{last}` and `{rest.split()[0]}`, or the expression ends{guess}"
-    remedy = next((ELSEWHERE[it] for it in (last, rest.split()[0].partition("(")[0]) if it in ELSEWHERE), "")
+    behind = [it.partition("(")[0] for it in rest.split()]
+    remedy = DENIED.get(behind[1], "") if behind[0] == "not" and len(behind) > 1 else next((ELSEWHERE[it] for it in (last, behind[0]) if it in ELSEWHERE), "")
     return words, remedy or "There are no functions: operators are + - * / %, comparisons, and, or, not, is null."
 
 
 def bad_token(text, at):
     here, two = text[at], text[at:at + 2]
     if two == "||" and ("'" in text[at + 2:].lstrip()[:1] or text[:at].rstrip().endswith("'")):
-        return "there is no `||`", "Texts can't be put together: keep each in a field of its own."
+        return "there is no `||`", TOGETHER
+    if here in "?~" or two == "!~":
+        return f"the language of expressions has no `{two if here == '!' else here}`", ELSEWHERE["case" if here == "?" else "like"]
     for sign, instead in (("!=", "<>"), ("&&", "and"), ("||", "or"), ("!", "not"), ("&", "and"), ("|", "or")):
         if two.startswith(sign):
             return f"there is no `{sign}`", f"Write `{instead}`."
@@ -222,7 +229,8 @@ def bad_token(text, at):
             return "the text has more than 255 bytes", ""
         return "the text isn't closed", "It ends with a single quote; a quote in it is written twice."
     if here == '"':
-        return "a text in an expression stands in single quotes", "Write 'so'."
+        meant = re.match(r'"([^"\']+)"', text[at:])
+        return "a text in an expression stands in single quotes", f"Write '{meant[1] if meant else 'so'}'."
     named = re.search(r"([a-z][a-z0-9_]*)\.$", text[:at + 1]), re.match(r"\.([a-z][a-z0-9_]*)", text[at:])
     if here == "." and all(named):
         stream, field = named[0][1], named[1][1]
@@ -257,10 +265,12 @@ def mistyped(box, item, fields, have):
     """What doesn't fit in an expression. Its third answer is a way, and the fourth the place in the text there."""
     text, way = expressions(box)[item]
     kind, misfits = expression.checked(text, fields)
+    added = [it for it in misfits if it.words.startswith("`+` ") and it.words.endswith(" text")]
     for misfit in misfits:
         sides = [side for side in (f"l_{misfit.field}", f"r_{misfit.field}") if side in fields]
         guess = f" (is {listed([f'`{side}`' for side in sides], 'or')} meant?)" if sides else near(misfit.field, fields) if misfit.field else ""
-        yield misfit.words + guess, own_field(box, item, misfit.field) or have + text_meant(text, misfit.field, guess), way, misfit.at
+        remedy = TOGETHER if len(added) > 1 and misfit in added else own_field(box, item, misfit.field) or have + text_meant(text, misfit.field, guess)
+        yield misfit.words + guess, remedy, way, misfit.at
     if not misfits and box["kind"] == "map":
         yield "the bare `null` has no kind", "Leave the field out, or compute a Null of a kind: `null + 0` is a number.", way, 0
     elif not misfits:

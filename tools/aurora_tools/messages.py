@@ -201,6 +201,8 @@ def who_names(name, given):
     """Returns the line of the network file that names a file, and who names it, as far as these are known."""
     if name in given.nets:
         return "", 0, None, "the network file " if name == given.nets[0] else "the query's file "
+    if name == given.text:
+        return "", 0, None, "the text "
     for option, value in given.options.items():
         if value == name:
             return "", 0, None, f"the file of `{option}`, "
@@ -235,10 +237,9 @@ def unread(name, given):
 
 def too_long(name, given):
     path, line, text, who = who_names(name, given)
-    limit = 67_108_864 if line else 1_048_576
+    limit = 67_108_864 if line else 268_435_456 if name == given.text else 1_048_576
     have = f" has {os.path.getsize(name):,} bytes, and" if os.path.isfile(name) else ""
-    remedy = "Run its parts, cut by a key: aurora-shard. Or cut it into several sources of the same fields and put them together by a Union." if line else ""
-    return Finding(f"{who}{name}{have} may have {limit:,} bytes", remedy, path, line, text)
+    return Finding(f"{who}{name}{have} may have {limit:,} bytes", line_rules.IN_PARTS if line else "", path, line, text)
 
 
 def explained(words, message):

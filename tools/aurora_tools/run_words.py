@@ -22,10 +22,10 @@ def of_command(command, *words):
 
 
 class Words:
-    """NET and the options of a run as they were written, and what is wrong with them."""
+    """NET and the options of a run as they were written, or NET and the text of an audit, and what is wrong with them."""
 
     def __init__(self, words):
-        self.nets, self.options, self.faults = [], {}, []
+        self.nets, self.options, self.faults, self.text = [], {}, [], ""
         words = list(words)
         if words[:1] in (["help"], ["version"], ["-h"], ["--help"], ["--version"]):
             self.faults.append(f"`aurora` has no `{words[0]}`: {HELP}")
@@ -42,6 +42,8 @@ class Words:
                 self.nets.append(word)
         if self.nets[:1] in (["audit"], ["gen"]):
             self.faults += of_command(*self.nets)
+            if self.nets[0] == "audit" and len(self.nets) == 3:
+                self.nets, self.text = self.nets[1:2], self.nets[2]
         elif self.nets[:1] == ["run"] and len(self.nets) == 2:
             self.faults.append("the word `run` stands before NET already: aurora-explain takes the words behind it")
         elif len(self.nets) != 1 or not self.nets[0]:

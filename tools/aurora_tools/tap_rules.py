@@ -12,7 +12,7 @@ class TapWords:
 
     def __init__(self, words):
         words = list(words)
-        self.options, self.faults = {}, []
+        self.options, self.faults, self.text = {}, [], ""
         net, self.stream, tick, history, self.query = (words + [""] * 5)[:5]
         self.nets = [net, self.query]
         if len(words) != 5:

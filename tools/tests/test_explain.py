@@ -119,6 +119,16 @@ NETWORKS = [
     ("value >= 10", "value between 1 and 3", "Expr box 0 0 6 Expected", "where", "`a >= 1 and a <= 5`"),
     ("value >= 10", "case when good then 1 end", "Expr box 0 0 5 Expected", "where", "a Filter parts the tuples"),
     ("value >= 10", "value > 1_000", "Expr box 0 0 9 BadToken", "where", "between thousands"),
+    ("value >= 10", "unit not in ('a')", "Expr box 0 0 5 Expected", "where", "`a <> 1 and a <> 2`"),
+    ("value >= 10", "unit not like 'a'", "Expr box 0 0 5 Expected", "where", "no patterns"),
+    ("value >= 10", "value not between 1 and 3", "Expr box 0 0 6 Expected", "where", "`a < 1 or a > 5`"),
+    ("value >= 10", "unit =~ 'a'", "Expr box 0 0 6 BadToken", "where", "no patterns"),
+    ("value >= 10", "unit !~ 'a'", "Expr box 0 0 5 BadToken", "where", "no patterns"),
+    ("value >= 10", "good ? good : good", "Expr box 0 0 5 BadToken", "where", "a Filter parts the tuples"),
+    ('"value >= 10"', "'unit = \"b\"'", "Expr box 0 0 7 BadToken", "where", "Write 'b'."),
+    ("value >= 10", "concat(unit, 'a') = 'b'", "Expr box 0 0 6 Expected", "where", "can't be put together"),
+    ("value >= 10", "substr(unit, 1) = 'b'", "Expr box 0 0 6 Expected", "where", "can't be cut"),
+    ("value >= 10", "unit + 'a' = 'b'", "Typing box 0 0", "where", "can't be put together"),
     ("value >= 10", "unit || 'a'", "Expr box 0 0 5 BadToken", "where", "can't be put together"),
     ("value >= 10", "good || good", "Expr box 0 0 5 BadToken", "where", "Write `or`"),
     ("value >= 10", "unit = b", "Typing box 0 0", "where", "'b'"),
@@ -157,6 +167,7 @@ LINES = [
     ('4,a,1,"true\nb"', "Fields", "In the line before a quote opens"),
     ("4,a,1_000,true", "NotInt", "thousands"),
     ("4,a,1,true,x", "Fields", "5 fields"),
+    ("4,a,1,000,true", "Fields", "A number has none, neither between thousands"),
     ("x,a,1,true", "Tick", "`x`"),
     ("1700000000000,a,1,true", "Tick", "Milliseconds"),
     ("2024-05-01,a,1,true", "Tick", "date"),
@@ -244,6 +255,11 @@ class Mistakes(unittest.TestCase):
     def test_a_line_of_headings(self):
         self.write("readings.csv", "tick,unit,value,good\n" + STREAM)
         self.assertIn("sed 1d", self.refused("plant.toml")[1])
+        for heads in ("tick,unit", "tick,unit,value,good,more"):
+            self.write("readings.csv", f"{heads}\n{STREAM}")
+            told, below = self.refused("plant.toml")
+            self.assertEqual(told, "aurora: stream readings: line 1: Fields")
+            self.assertIn("sed 1d", below)
 
     def test_a_byte_that_is_no_text(self):
         with open("readings.csv", "wb") as file:
@@ -253,7 +269,8 @@ class Mistakes(unittest.TestCase):
         self.assertIn("FC in field 1", below)
 
     def test_files_that_are_no_text_at_all(self):
-        for made, words in ((gzip.compress(STREAM.encode()), "packed by gzip"), (STREAM.encode("utf-16"), "iconv -f UTF-16"), (b"PAR1....", "Parquet")):
+        for made, words in ((gzip.compress(STREAM.encode()), "packed by gzip"), (STREAM.encode("utf-16"), "iconv -f UTF-16 "), (b"PAR1....", "Parquet"),
+                            (STREAM.encode("utf-16-le"), "iconv -f UTF-16LE "), (STREAM.encode("utf-16-be"), "iconv -f UTF-16BE ")):
             with open("readings.csv", "wb") as file:
                 file.write(made)
             told, below = self.refused("plant.toml")
@@ -324,6 +341,14 @@ class Mistakes(unittest.TestCase):
                 run = forked.run([f"{os.path.dirname(HERE)}/explain", "--program", PROGRAM, *asked])
                 self.assertEqual(run.stderr[:len(told)], told)
                 self.assertEqual(bool(run.stderr), bool(told))
+                self.assertIn(words, run.stderr)
+
+    def test_the_files_of_an_audit(self):
+        self.write("none.toml", "version = 3\n")
+        for net, text, words in (("plnt.toml", "text", "the network file plnt.toml isn't there (is `plant.toml` meant?)"), ("plant.toml", "text", "the text text isn't there"),
+                                 ("none.toml", "text", "`version` is 3")):
+            with self.subTest(words):
+                run = forked.run([f"{os.path.dirname(HERE)}/explain", "--program", PROGRAM, "audit", net, text])
                 self.assertIn(words, run.stderr)
 
     def test_files_that_are_not_there(self):
