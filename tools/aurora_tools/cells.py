@@ -168,7 +168,9 @@ class Guess:
         self.column, self.given = column, given
         self.fixed = given.digits.get(column)
         self.seen, self.boolean, self.number, self.digits, self.wide = False, True, True, self.fixed or 0, None
-        self.words, self.numbers, self.commas, self.comma = {}, 0, True, False
+        self.words, self.numbers = {}, 0
+        # Words among numbers of which some have a decimal comma, and how many cells they are.
+        self.among, self.others, self.comma = {}, 0, False
 
     @property
     def kind(self):
@@ -189,8 +191,9 @@ class Guess:
             self.look_at_numbers(cells, first)
         if self.number:
             self.numbers += len(cells) - cells.count("")
-        elif self.words is not None or self.commas:
+        elif self.words is not None or self.among is not None:
             self.look_at_words(cells, first)
+            self.look_at_commas(cells, first)
         return before is not None and before != (self.kind, self.digits)
 
     def look_at_numbers(self, cells, first):
@@ -218,15 +221,26 @@ class Guess:
             return self.fixed is None
 
     def look_at_words(self, cells, first):
-        if self.commas:
-            lines = self.given.lines.of(cells)
-            self.commas = lines is not None and COMMAS.fullmatch(lines) is not None
-            self.comma = self.commas and (self.comma or "," in lines)
-        if self.words is None:
-            return
-        found = {it for it in set(cells) if it and it not in self.words and not NUMBER.fullmatch(it)}
-        if len(self.words) + len(found) > FEW_WORDS:
-            self.words = None
-            return
-        self.words.update({it: first + cells.index(it) for it in sorted(found, key=cells.index)})
-        self.numbers += len(cells) - cells.count("") - sum(map(cells.count, self.words))
+        if self.words is not None:
+            self.words = few(self.words, {it for it in set(cells) if it and not NUMBER.fullmatch(it)}, cells, first)
+        if self.words is not None:
+            self.numbers += len(cells) - cells.count("") - sum(map(cells.count, self.words))
+
+    def look_at_commas(self, cells, first):
+        lines = self.given.lines.of(cells) if self.among is not None else None
+        if lines is not None and COMMAS.fullmatch(lines):
+            self.comma = self.comma or "," in lines
+        elif self.among is not None:
+            different = set(cells)
+            odd = {it for it in different if it and ("\n" in it or not COMMAS.fullmatch(it + "\n"))}
+            self.comma = self.comma or any("," in it for it in different - odd)
+            self.among = few(self.among, odd, cells, first)
+            self.others += sum(map(cells.count, self.among or ()))
+
+
+def few(words, found, cells, first):
+    """Returns words with their rows and those that were found now, or None where these are too many."""
+    found = found - words.keys()
+    if len(words) + len(found) > FEW_WORDS:
+        return None
+    return words | {it: first + cells.index(it) for it in sorted(found, key=cells.index)}

@@ -15,6 +15,7 @@ ISO = re.compile(rf"([0-9]{{4}})(-?)([0-9]{{2}})\2([0-9]{{2}})(?:[Tt ]{CLOCK} ?{
 HEAD = re.compile(r"([0-9]{4}-[0-9]{2}-[0-9]{2})[Tt ]([0-9]{2}):([0-9]{2}):")
 REST = re.compile(rf"(?:[.,]([0-9]+))? ?{OFFSET}")
 LIKE_ISO = re.compile(r"[0-9]{4}-[0-9]{2}-[0-9]{2}")
+LIKE_DATE = re.compile(r"[0-9]{1,4}[./-][0-9]{1,2}[./-][0-9]{1,4}(?![0-9])|[0-9]{1,2}:[0-9]{2}|[0-9]{1,2}[ -][A-Z][a-z]{2}\b")
 WHOLE_LINES = re.compile(r"(?>-?+(?>0|[1-9][0-9]{0,18}+)\n)*+")
 PARTS_LINES = re.compile(r"(?>-?+(?>0|[1-9][0-9]{0,18}+)(?>\.[0-9]{1,9}+)?+\n)*+")
 DIRECTIVES = {"Y": "(?P<Y>[0-9]{4})", "m": "(?P<m>[0-9]{2})", "d": "(?P<d>[0-9]{2})", "b": "(?P<b>[A-Z][a-z]{2})", "H": "(?P<H>[0-9]{2})", "M": "(?P<M>[0-9]{2})",
@@ -175,6 +176,8 @@ class Number:
         self.unit = UNITS[unit]
 
     def one(self, text):
+        if LIKE_DATE.match(text):
+            raise Refused(f"{text[:60]!r} is no number: a date or a time of day has a form, as --unit '%d.%m.%Y %H:%M:%S'")
         past, rest = divmod(whole(text, 9) * self.unit, 10**9)
         if rest:
             raise Refused(f"{text} is finer than a nanosecond")

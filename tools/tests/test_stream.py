@@ -125,6 +125,11 @@ class Streams(unittest.TestCase):
         self.refused("a line feed", 't,v\n1,"a\nb"\n', "--time", "t")
         self.refused("line 1, v: an empty text", '{"t": 1, "v": ""}\n', "--time", "t", name="t.jsonl")
 
+    def test_a_date_that_is_no_number_is_told_as_that(self):
+        for time in ("02.03.2026 00:00:00", "3/2/2026", "08:30", "2 Mar 2026"):
+            self.refused("a date or a time of day has a form, as --unit", f"t,v\n{time},1\n", "--time", "t")
+        self.assertEqual(self.made("t,v\n02.03.2026 00:00:01,1\n", "--time", "t", "--unit", "%d.%m.%Y %H:%M:%S")[0], ["1772409601,1"])
+
     def test_times_that_are_no_ticks_are_refused(self):
         self.refused("line 2, t: 1700000001500 lies between two ticks", "t,v\n1700000001500,1\n", "--time", "t", "--unit", "ms")
         self.refused("ticks are 0 to 2^40 - 1", "t,v\n1700000001500,1\n", "--time", "t", "--unit", "ms", "--tick", "ms")
@@ -136,6 +141,8 @@ class Streams(unittest.TestCase):
         self.refused("line 3: 1 fields, and 2 headings", "t,v\n1,1\n2\n", "--time", "t")
         self.refused("the heading 'v' stands twice", "t,v,v\n1,1,1\n", "--time", "t")
         self.refused("there is no column 'at'", "t,v\n1,1\n", "--time", "at")
+        self.refused("there are t;v: say --separator ';'\n", "t;v\n1;1\n", "--time", "t")
+        self.refused("there are t\\x09v: say --separator '\\t'\n", "t\tv\n1\t1\n", "--time", "t")
         self.refused("is no name of a field", "t,And\n1,1\n", "--time", "t")
         self.refused("--field w:int", "t,v\n1,1\n", "--time", "t", "--field", "w:int")
         self.refused("a list or an object is no field", '{"t": 1, "v": [2]}\n', "--time", "t", name="t.jsonl")
@@ -232,6 +239,12 @@ class Streams(unittest.TestCase):
         text = "t;v\n1;12,5\n2;3,25\n"
         self.assertIn("v is text, and looks like numbers with a decimal comma: --comma", self.run_on(text, "--time", "t", "--separator", ";").stderr)
         self.assertEqual(self.made(text, "--time", "t", "--separator", ";", "--comma")[0], ["1,1250", "2,325"])
+        beside = text + "3;NA\n4;\n5;-\n6;4\n7;7,25\n"
+        said = self.run_on(beside, "--time", "t", "--separator", ";").stderr
+        self.assertIn('v is text, and looks like numbers with a decimal comma beside "NA" in line 4 and "-" in line 6: --comma --missing NA --missing - makes numbers of that', said)
+        self.assertEqual(self.made(beside, "--time", "t", "--separator", ";", "--comma", "--missing", "NA", "--missing=-")[0][-3:], ["5,", "6,400", "7,725"])
+        for words in ("a\n3;b\n4;c\n5;d\n6;e\n", "a\n3;a\n4;a\n5;a\n"):
+            self.assertNotIn("comma", self.run_on(f"t;v\n1;12,5\n2;{words}", "--time", "t", "--separator", ";").stderr)
         self.refused("'12,5' is no number: where its comma parts the decimals, say --comma", text, "--time", "t", "--separator", ";", "--field", "v:int.2")
         self.refused("is no number", "t;v\n1;1.234,5\n", "--time", "t", "--separator", ";", "--comma", "--field", "v:int.2")
 
