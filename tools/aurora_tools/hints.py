@@ -151,6 +151,8 @@ def gave_nothing(net, run):
             for port, stream in enumerate(streams[:-1]):
                 if known[stream] == 0:
                     yield at(net, f"{box_named(net, number)}`{box['where'][port]}` took none of the {fed:,} tuples that it was fed", "", "box", number, "where", port)
+        elif box["kind"] == "resample" and keeps_times(net, box) and (why := apart(net, box)):
+            yield at(net, f"{box_named(net, number)}nothing of `{box['in'][1]}` is near any tuple of `{box['in'][0]}`", why, "box", number)
         elif known[streams[0]] == 0:
             remedy = apart(net, box) if box["kind"] == "join" else ""
             yield at(net, f"{box_named(net, number)}it was fed {counted(fed, 'tuple')} and gave none", remedy, "box", number)
@@ -173,17 +175,27 @@ def ends_of(path):
 
 def sources_above(net, stream):
     """Returns the sources that a stream comes from."""
-    above, waiting = set(), [stream]
+    return {it for it in [stream, *(it for box in boxes_above(net, [stream]) for it in box["in"])] if net.givers[it] is None}
+
+
+def boxes_above(net, streams):
+    """Returns the boxes that streams come from."""
+    above, waiting = {}, [net.givers[it] for it in streams]
     while waiting:
-        if (name := waiting.pop()) not in above:
-            above.add(name)
-            giver = net.givers[name]
-            waiting += [] if giver is None else net.boxes[giver]["in"]
-    return {it for it in above if net.givers[it] is None}
+        number = waiting.pop()
+        if number is not None and number not in above:
+            above[number] = net.boxes[number]
+            waiting += [net.givers[it] for it in above[number]["in"]]
+    return above.values()
+
+
+def keeps_times(net, box):
+    """Says whether what a box takes has the times of its sources, so that their files tell which these are."""
+    return not any(it["kind"] in ("bsort", "aggregate") for it in boxes_above(net, box["in"]))
 
 
 def apart(net, box):
-    """Returns in words that the ticks of a Join's sides are never near each other, where their files say so."""
+    """Returns in words that the ticks of the two sides of a Join or Resample are never near each other, where their files say so."""
     files = {it["name"]: it["file"] for it in net.sources}
     ranges = []
     for stream in box["in"]:
@@ -196,6 +208,16 @@ def apart(net, box):
         return ""
     return (f"The ticks above `{box['in'][0]}` are {low:,} to {high:,}, and those above `{box['in'][1]}` {other_low:,} to {other_high:,}: none is within {box['size']:,} of another. "
             "Have they one unit, and one origin?")
+
+
+def one_drop(net):
+    """Yields outputs whose different weights decide nothing, since they are below one drop."""
+    for number, drop in enumerate(net.drops):
+        below = [net.outputs[it] for it in sorted(drop.outputs)]
+        weights = [it.get("weight", 1) for it in below]
+        if len(set(weights)) > 1:
+            yield Finding(f"{listed([it['name'] for it in below])} are below drop {number}: they lose the same windows, and that their weights are {listed([str(it) for it in weights])} changes nothing",
+                          "Outputs have drops of their own where their ways begin at sources of their own: name the file in two (the manual's part 17).")
 
 
 def loads(net, capacities, run):
@@ -228,4 +250,5 @@ def hints(net, run, capacities):
     if run:
         yield from gave_nothing(net, run)
     if capacities is not None:
+        yield from one_drop(net)
         yield from loads(net, capacities, run)

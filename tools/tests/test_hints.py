@@ -48,6 +48,9 @@ name = "p"
 from = "j"
 """
 BSORT = '[[box]]\nname = "b"\nkind = "bsort"\nin = ["s"]\nby = "at"\nslack = 0\n[[output]]\nname = "o"\nfrom = "b"'
+JOIN = 'kind = "join"\nin = ["s", "t"]\nsize = 5\non = "l_v = r_v"'
+RESAMPLE = 'kind = "resample"\nin = ["s", "t"]\nsize = 5\ngive = [["near", "count"]]'
+SORTED = '\n[[box]]\nname = "b"\nkind = "bsort"\nin = ["s"]\nby = "at"\nslack = 1'
 S, T = "100,99,20,x\n101,90,500,y\n115,112,30,x\n125,125,5,x\n", "100,20\n101,30\n"
 
 # What is put in place of what in the network; the streams, the capacities; the line that is told, what is said, where it is of the text of a run.
@@ -64,11 +67,15 @@ CASES = [
     ('in = ["s", "t"]', 'in = ["s", "s"]', S, T, None, "[[source]]", "source 1, `t`: no output has anything of it"),
     ("", "", S, T.replace("10", "100010"), None, "[[box]]", "none is within 5 of another. Have they one unit, and one origin?"),
     ("", "", S, T.replace("10", "100010"), "0,0\n", "[[box]]", "box 2, `j`, a join: it was fed 6 tuples and gave none"),
+    (JOIN, RESAMPLE, S, T, None, None, None),
+    (JOIN, RESAMPLE, S, T.replace("10", "100010"), None, "[[box]]", "nothing of `t` is near any tuple of `s`"),
+    (JOIN, RESAMPLE.replace('"s"', '"b"') + SORTED, S, T.replace("10", "100010"), None, None, None),
     ('[[output]]\nname = "o"\nfrom = "w"', BSORT, S, T, None, "slack", "left out 1 of 4 tuples"),
     ("epoch = 10", "epoch = 1000", S, T, "0,5\n", "", "all tuples lie in epoch 0"),
     ('[[output]]\nname = "o"\nfrom = "w"', BSORT, S, T, "0,5\n", "", "there is no drop point"),
     ("", "", S, T, "0,5\n", "", "more load than capacity, and nothing left to drop"),
     ("", "", S, T, "0,99000000\n", "", "no epoch is over its capacity: the busiest has a load of"),
+    ('from = "w"\n[[output]]', 'from = "w"\nweight = 5\n[[output]]\nname = "q"\nfrom = "w"\n[[output]]', S, T, "0,99000000\n", "", "o and q are below drop 0: they lose the same windows"),
 ]
 
 
