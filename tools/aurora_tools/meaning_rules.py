@@ -179,7 +179,7 @@ ELSEWHERE |= {"when": ELSEWHERE["case"], "then": ELSEWHERE["case"], "else": ELSE
 TOGETHER = "Texts can't be put together: keep each in a field of its own."
 ELSEWHERE |= {"concat": TOGETHER} | dict.fromkeys(("substr", "substring", "upper", "lower", "trim"), "Texts can't be cut or changed: do it before, where the stream is made.")
 # The same behind a `not`.
-DENIED = ELSEWHERE | {"in": "There is no list of values: write `a <> 1 and a <> 2`.", "between": "Write both bounds: `a < 1 or a > 5`."}
+DENIED = ELSEWHERE | {"in": "There is no list of values: write `a <> 1 and a <> 2`.", "between": "Write both bounds: `a < 1 or a > 5`.", "null": "Write `a is not null`."}
 
 
 def why_unreadable(text, at, what):

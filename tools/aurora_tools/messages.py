@@ -201,7 +201,7 @@ def who_names(name, given):
     """Returns the line of the network file that names a file, and who names it, as far as these are known."""
     if name in given.nets:
         return "", 0, None, "the network file " if name == given.nets[0] else "the query's file "
-    if name == given.text:
+    if given.text and name == given.text:
         return "", 0, None, "the text "
     for option, value in given.options.items():
         if value == name:

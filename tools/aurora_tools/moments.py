@@ -177,7 +177,8 @@ class Number:
 
     def one(self, text):
         if LIKE_DATE.match(text):
-            raise Refused(f"{text[:60]!r} is no number: a date or a time of day has a form, as --unit '%d.%m.%Y %H:%M:%S'")
+            remedy = "it looks like ISO 8601, for which --unit iso stands" if LIKE_ISO.match(text) else "a date or a time of day has a form, as --unit '%d.%m.%Y %H:%M:%S'"
+            raise Refused(f"{text[:60]!r} is no number: {remedy}")
         past, rest = divmod(whole(text, 9) * self.unit, 10**9)
         if rest:
             raise Refused(f"{text} is finer than a nanosecond")

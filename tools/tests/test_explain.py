@@ -122,6 +122,7 @@ NETWORKS = [
     ("value >= 10", "unit not in ('a')", "Expr box 0 0 5 Expected", "where", "`a <> 1 and a <> 2`"),
     ("value >= 10", "unit not like 'a'", "Expr box 0 0 5 Expected", "where", "no patterns"),
     ("value >= 10", "value not between 1 and 3", "Expr box 0 0 6 Expected", "where", "`a < 1 or a > 5`"),
+    ("value >= 10", "value not null", "Expr box 0 0 6 Expected", "where", "`a is not null`"),
     ("value >= 10", "unit =~ 'a'", "Expr box 0 0 6 BadToken", "where", "no patterns"),
     ("value >= 10", "unit !~ 'a'", "Expr box 0 0 5 BadToken", "where", "no patterns"),
     ("value >= 10", "good ? good : good", "Expr box 0 0 5 BadToken", "where", "a Filter parts the tuples"),

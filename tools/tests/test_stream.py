@@ -128,6 +128,7 @@ class Streams(unittest.TestCase):
     def test_a_date_that_is_no_number_is_told_as_that(self):
         for time in ("02.03.2026 00:00:00", "3/2/2026", "08:30", "2 Mar 2026"):
             self.refused("a date or a time of day has a form, as --unit", f"t,v\n{time},1\n", "--time", "t")
+        self.refused("for which --unit iso stands", "t,v\n2026-03-02,1\n", "--time", "t", "--unit", "s")
         self.assertEqual(self.made("t,v\n02.03.2026 00:00:01,1\n", "--time", "t", "--unit", "%d.%m.%Y %H:%M:%S")[0], ["1772409601,1"])
 
     def test_times_that_are_no_ticks_are_refused(self):
