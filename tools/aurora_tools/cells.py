@@ -13,7 +13,6 @@ INTEGERS = re.compile(r"(?>(?>-?+(?>0|[1-9][0-9]*+))?+\n)*+")
 DECIMALS = re.compile(r"(?>(?>-?+(?>0|[1-9][0-9]*+)(?>\.[0-9]++)?+)?+\n)*+")
 COMMAS = re.compile(r"(?>(?>-?+[0-9]++(?>,[0-9]++)?+)?+\n)*+")
 SPECIAL = re.compile('[,"\r]')
-BEGINS_WITH_ZERO = re.compile(r"(?m)^(-?)0+(?=[0-9])")
 FEW_WORDS, SAFE_LENGTH, MOST_TEXT = 3, 18, 255
 
 
@@ -68,12 +67,16 @@ def within(text, value):
     return str(value)
 
 
+def bare(number):
+    """Returns a whole number without zeros before its first digit, and 0 without a sign."""
+    sign, digits = ("-", number[1:]) if number[:1] == "-" else ("", number)
+    kept = digits.lstrip("0")
+    return sign + kept if kept else digits[:1]
+
+
 def without_zeros(lines):
-    """Returns lines of whole numbers, each without zeros before its first digit, and 0 without a sign."""
-    if lines[0] in "0-" or "\n0" in lines or "\n-" in lines:
-        lines = BEGINS_WITH_ZERO.sub(r"\1", lines)
-    made = lines[:-1].split("\n")
-    return ["0" if it == "-0" else it for it in made] if "-0" in made else made
+    """Returns of lines of whole numbers each as `bare` does."""
+    return [it if it >= "1" else bare(it) for it in lines[:-1].split("\n")]
 
 
 def without_points(lines, cells, digits):
