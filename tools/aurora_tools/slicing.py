@@ -198,14 +198,22 @@ def look_at_ranges(streams, ranges):
             done = max(done, high)
 
 
+def begun_digest():
+    """Returns BLAKE2b as OpenSSL has it, which takes half as long as that of Python itself, or else the latter."""
+    try:
+        return hashlib.new("blake2b512", usedforsecurity=False)
+    except ValueError:
+        return hashlib.blake2b()
+
+
 def digest_of(stream, low, high, file=None):
     """Returns a digest of a file's bytes, which are written to another file where there is one."""
-    digest = hashlib.blake2b(digest_size=16)
+    digest = begun_digest()
     for block in stream.blocks(low, high):
         digest.update(block)
         if file:
             file.write(block)
-    return digest.hexdigest()
+    return digest.hexdigest()[:32]
 
 
 # ---- the plan of slices
