@@ -28,16 +28,16 @@ use Rattle.std.proofs.lemmas.Bool.{false_from_ne_true}
 -- a page that was refused in a call was so in a longer one
 refusal-since : (q r : Queues) (was mid is : DiskLog) (arc : ℕ) (e : QueueErr) → IsLater was mid → IsRefusal q r mid is arc e → IsRefusal q r was is arc e
 refusal-since q r was mid is arc queue.Disk later h = tt
-refusal-since q r was mid is arc (queue.Garbled page kept got) later (node, stands, (at, own, (bytes, back, digest), differ), same) = (
+refusal-since q r was mid is arc (queue.Garbled page kept got) later (node, stands, (at, own, (bytes, back, digest), differ, put), same) = (
   node,
   stands,
-  (at, own, (bytes, record { there = back.there; came = came-since was mid is _ bytes later back.came }, digest), differ),
+  (at, own, (bytes, record { there = back.there; came = came-since was mid is _ bytes later back.came }, digest), differ, put),
   same,
 )
-refusal-since q r was mid is arc (queue.NotAPage page bytes) later (node, stands, (at, out, (back, digest), misfit), same) = (
+refusal-since q r was mid is arc (queue.NotAPage page bytes) later (node, stands, (at, out, (back, digest, put), misfit), same) = (
   node,
   stands,
-  (at, out, (record { there = back.there; came = came-since was mid is page bytes.items later back.came }, digest), misfit),
+  (at, out, (record { there = back.there; came = came-since was mid is page bytes.items later back.came }, digest, put), misfit),
   same,
 )
 refusal-since q r was mid is arc queue.Memory later h = tt
