@@ -175,7 +175,7 @@ impl<O: Operator + Drop> Flow<O> {
         ensures strange { IfErr result (λ e. NoneStrange O.Operator (D.log disk.old).honest (known (D.log disk.old)) (known (D.log disk.new))
             self.old self.new.levels e) }
         ensures cause { IfErr result (IsCauseIn self.new (D.log disk.old) (D.log disk.new) (D.faults disk.old) (D.faults disk.new)) }
-        ensures feed { IfErr result (IsFeedCause self.old self.new (known (D.log disk.old)) (known (D.log disk.new))) }
+        ensures feed { IfErr result (IsFeedCause self.old self.new (D.log disk.old) (D.log disk.new)) }
         ensures faults { D.faults disk.old ≤ D.faults disk.new }
         ensures later { IsLater (D.log disk.old) (D.log disk.new) }
         ensures touches { OnOk result (TouchesOnly actor self.old self.new) }
@@ -237,7 +237,7 @@ impl<O: Operator + Drop> Flow<O> {
         ensures strange { IfErr result (λ e. NoneStrange O.Operator (D.log disk.old).honest (known (D.log disk.old)) (known (D.log disk.new))
             self.old self.new.levels e) }
         ensures cause { IfErr result (IsCauseIn self.new (D.log disk.old) (D.log disk.new) (D.faults disk.old) (D.faults disk.new)) }
-        ensures feed { IfErr result (IsFeedCause self.old self.new (known (D.log disk.old)) (known (D.log disk.new))) }
+        ensures feed { IfErr result (IsFeedCause self.old self.new (D.log disk.old) (D.log disk.new)) }
         ensures faults { D.faults disk.old ≤ D.faults disk.new }
         ensures later { IsLater (D.log disk.old) (D.log disk.new) }
         ensures memory { IfErr result (λ e. e ≢ RunErr.TooMuch) }
@@ -281,7 +281,7 @@ impl<O: Operator + Drop> Flow<O> {
         ensures strange { IfErr result (λ e. NoneStrange O.Operator (D.log disk.old).honest (known (D.log disk.old)) (known (D.log disk.new))
             self.old self.new.levels e) }
         ensures cause { IfErr result (IsCauseIn self.new (D.log disk.old) (D.log disk.new) (D.faults disk.old) (D.faults disk.new)) }
-        ensures feed { IfErr result (IsFeedCause self.old self.new (known (D.log disk.old)) (known (D.log disk.new))) }
+        ensures feed { IfErr result (IsFeedCause self.old self.new (D.log disk.old) (D.log disk.new)) }
         ensures faults { D.faults disk.old ≤ D.faults disk.new }
         ensures later { IsLater (D.log disk.old) (D.log disk.new) }
         ensures memory { IfErr result (λ e. e ≢ RunErr.TooMuch) }

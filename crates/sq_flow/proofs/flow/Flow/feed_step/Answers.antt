@@ -153,7 +153,7 @@ returns-in-Err-clause-feed g c =
 pub returns-in-Err-count_item-clause-feed : goal.returns-in-Err-count_item-clause-feed
 returns-in-Err-count_item-clause-feed g c =
     full-feed c.args.self.now (record c.args.self.now { queues = c.take_item.new.queues }) c.args.actor c.args.port c.args.arc c.in-Ok.item _ _ _ c.requires.head.1.1 refl
-    (record { popped = c.in-Ok.ensures.popped; others = c.in-Ok.ensures.faces; first = c.in-Ok.ensures.items }) c.in-Err-count_item.ensures.err c.in-Err-count_item.ensures.too_much
+    (record { popped = c.in-Ok.ensures.popped; others = c.in-Ok.ensures.faces; first = c.in-Ok.ensures.first; items = c.in-Ok.ensures.items }) c.in-Err-count_item.ensures.err c.in-Err-count_item.ensures.too_much
 
 pub returns-in_err-feed_into-clause-feed : goal.returns-in_err-feed_into-clause-feed
 returns-in_err-feed_into-clause-feed g c =
