@@ -1,5 +1,6 @@
 -- What a reader of `csv` reads of one line.
-use Rattle.std.proofs.Common.{◌≡◌, ◌∙◌, ap, sym, refl, ℕ, zero, suc, ◌+◌, Bor, true, false, List, [], ◌∷◌, ◌++◌, drop, Option, Some, None}
+use Rattle.std.proofs.Common.{◌≡◌, ◌∙◌, ap, sym, refl, ℕ, zero, suc, Bor, true, false, List, [], ◌∷◌, ◌++◌, append_assoc, drop, map, Option, Some, None}
+use Rattle.std.proofs.lemmas.List.{append-nil, map-append}
 use Rattle.csv.specs.Machine.{Read, next_record}
 use Rattle.csv.specs.Reading.{Reached, ReadRecord, default_config, source_of, strip_bom}
 use Rattle.csv.specs.Records.{field_at}
@@ -27,7 +28,7 @@ Read_to a line rows = (y : List ℕ) × (source_of left a ≡ Some y) × Reached
 
 begun : (a : Reader (Bor (List ℕ))) (line : List ℕ) → Starts a line → Read_to a line []
 unfolding Reached
-begun a line s = (line, s.source, s.state, refl)
+begun a line s = (line, s.source, (s.state, refl))
 
 more : (a b : Reader (Bor (List ℕ))) (line : List ℕ) (rows : List (List (List ℕ))) (row : List (List ℕ)) → a.config ≡ default_config → Read_to a line rows → ReadRecord left a b true row
     → Read_to b line (rows ++ row ∷ [])
@@ -74,16 +75,31 @@ unmarked (a ∷ []) h = refl
 unmarked (a ∷ b ∷ []) h = refl
 unmarked (a ∷ b ∷ c ∷ rest) h = rw h refl
 
--- the fields of a row from a place on
-pub field_first : (fields : List (List ℕ)) (i : ℕ) (field : List ℕ) → field_at fields i ≡ Some field → drop i fields ≡ field ∷ drop (i + 1) fields
+first_field : (fields : List (List ℕ)) (i : ℕ) (field : List ℕ) → field_at fields i ≡ Some field → drop i fields ≡ field ∷ drop (suc i) fields
 unfolding field_at
-field_first [] i field e = cc e
-field_first (f ∷ fs) zero field e = let same : f ≡ field = cc e in ap (λ x. x ∷ fs) same
-field_first (f ∷ fs) (suc i) field e = field_first fs i field e
+first_field [] i field e = cc e
+first_field (f ∷ fs) zero field e = let same : f ≡ field = cc e in ap (λ x. x ∷ fs) same
+first_field (f ∷ fs) (suc i) field e = first_field fs i field e
 
-pub no_field : (fields : List (List ℕ)) (i : ℕ) → field_at fields i ≡ None → drop i fields ≡ []
+no_field : (fields : List (List ℕ)) (i : ℕ) → field_at fields i ≡ None → drop i fields ≡ []
 unfolding field_at
 no_field [] zero e = refl
 no_field [] (suc i) e = refl
 no_field (f ∷ fs) zero e = cc e
 no_field (f ∷ fs) (suc i) e = no_field fs i e
+
+-- the fields that were seen, and those from a place on, are all
+abbrev pub AreAll : List (Bor (List ℕ)) → ℕ → List (List ℕ) → List (List ℕ) → Type 0
+AreAll seen i fields whole = map (λ f. f.now) seen ++ drop i fields ≡ whole
+
+pub all_more : (seen : List (Bor (List ℕ))) (i : ℕ) (fields whole : List (List ℕ)) (field : Bor (List ℕ)) → AreAll seen i fields whole → field_at fields i ≡ Some field.now
+    → AreAll (seen ++ field ∷ []) (suc i) fields whole
+all_more seen i fields whole field all here =
+    ap (λ xs. xs ++ drop (suc i) fields) (map-append (λ f. f.now) seen (field ∷ []))
+    ∙ append_assoc (map (λ f. f.now) seen) (field.now ∷ []) (drop (suc i) fields)
+    ∙ ap (λ xs. map (λ f. f.now) seen ++ xs) (sym (first_field fields i field.now here))
+    ∙ all
+
+pub all_seen : (seen : List (Bor (List ℕ))) (i : ℕ) (fields whole : List (List ℕ)) → AreAll seen i fields whole → field_at fields i ≡ None → map (λ f. f.now) seen ≡ whole
+all_seen seen i fields whole all none =
+    sym (append-nil (map (λ f. f.now) seen)) ∙ ap (λ xs. map (λ f. f.now) seen ++ xs) (sym (no_field fields i none)) ∙ all
