@@ -15,7 +15,8 @@ returns-clause-ok g c =
     c.test_page.ensures.ok
 
 pub returns-then-there-clause-had : goal.returns-then-there-clause-had
-returns-then-there-clause-had g c = λ bytes e. were-there _ _ _ _ _ _ c.args.kept.now.page bytes c.in-Ok.ensures.pool (sym c.if-there.ensures) e
+returns-then-there-clause-had g c = λ bytes e.
+    were-there _ _ _ _ (g.D.PageDisk.log c.args.disk.now) (g.D.PageDisk.log c.bring.new.disk) c.args.kept.now.page bytes c.in-Ok.ensures.pool (sym c.if-there.ensures) e
 
 pub returns-clause-had : goal.returns-clause-had
 returns-clause-had g c =

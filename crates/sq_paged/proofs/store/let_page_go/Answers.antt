@@ -10,8 +10,8 @@ pub returns-in-Ok-clause-gone : goal.returns-in-Ok-clause-gone
 returns-in-Ok-clause-gone g c = gone-held _ _ _ _ _ c.in-Ok.ensures.map
 
 pub returns-in-Ok-clause-log : goal.returns-in-Ok-clause-log
-returns-in-Ok-clause-log g c = by _ c.in-Ok.ensures.disk_after
+returns-in-Ok-clause-log g c = by _ _ _ _ c.in-Ok.ensures.disk_after
   where
-    by : {a b now : DiskLog} (there : Bool) → now ≡ cond there a b → there ≡ true → now ≡ a
-    by true e h = e
-    by false e h = absurd cc
+    by : (a b now : DiskLog) (there : Bool) → now ≡ cond there a b → there ≡ true → now ≡ a
+    by a b now true e h = e
+    by a b now false e h = absurd cc
