@@ -58,6 +58,10 @@ class Limits(unittest.TestCase):
     def test_picks(self):
         self.longest("p.csv", "0\n", SMALL, ("run", "n.toml", "--picks", "p.csv"))
 
+    def test_the_network_of_a_tap(self):
+        self.write("q.toml", NETWORK)
+        self.longest("n.toml", NETWORK, SMALL, ("tap", "n.toml", "s", "0", "0", "q.toml"))
+
     def test_the_query_of_a_tap(self):
         self.longest("q.toml", NETWORK, SMALL, ("tap", "n.toml", "s", "0", "0", "q.toml"))
 

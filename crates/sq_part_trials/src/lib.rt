@@ -14,6 +14,8 @@ mod expr;
 #[cfg(test)]
 mod feeding;
 #[cfg(test)]
+mod lines;
+#[cfg(test)]
 mod link;
 #[cfg(test)]
 mod numbers;
@@ -27,6 +29,8 @@ mod page;
 mod pane;
 #[cfg(test)]
 mod plain;
+#[cfg(test)]
+mod plan;
 #[cfg(test)]
 mod pool;
 #[cfg(test)]
