@@ -51,11 +51,11 @@ fn box_of(alloc: Global, kind: BoxKind, stream: u32) -> Result<BoxWires, AllocEr
 /// A BSort of a source, an Aggregate of it and an Aggregate of that; both Aggregates are shown.
 fn wires_of_three(alloc: Global) -> Result<Wiring, AllocError>
     ensures { IfOk result (λ w. w ≡ record {
-        sources = 1;
-        boxes = record { kind = BoxKind.BSort; inputs = 0 ∷ []; ports = 1 } ∷ record { kind = BoxKind.Aggregate; inputs = 1 ∷ []; ports = 1 }
-            ∷ record { kind = BoxKind.Aggregate; inputs = 2 ∷ []; ports = 1 } ∷ [];
-        outputs = 2 ∷ 3 ∷ [];
-      }) }
+      sources = 1;
+      boxes = record { kind = BoxKind.BSort; inputs = 0 ∷ []; ports = 1 } ∷ record { kind = BoxKind.Aggregate; inputs = 1 ∷ []; ports = 1 }
+          ∷ record { kind = BoxKind.Aggregate; inputs = 2 ∷ []; ports = 1 } ∷ [];
+      outputs = 2 ∷ 3 ∷ [];
+    }) }
 {
     let sort = box_of(alloc, BoxKind::BSort, 0)?;
     let average = box_of(alloc, BoxKind::Aggregate, 1)?;

@@ -135,8 +135,7 @@ fn road_of_none(alloc: Global) -> Result<Road, Fail> {
 // The row of no steps, which loses nothing.
 fn is_empty_row(road: &Road, load: u128, capacity: u128, fits: bool) -> bool {
     let row = road.row_for(load, capacity);
-    (row.taken, row.saved, row.loss, row.fits) == (0, 0, 0, fits)
-        && row.ratio == Frac::new(0, 1)
+    (row.taken, row.saved, row.loss, row.fits) == (0, 0, 0, fits) && row.ratio == Frac::new(0, 1)
 }
 
 #[test]
