@@ -68,9 +68,9 @@ bytes-behind items item =
 pub bytes-in-front : (item : Item) (items : List Item) → bytes_of (item ∷ items) ≡ length (item_bytes item) + bytes_of items
 bytes-in-front item items = length-append (item_bytes item) (items_bytes items)
 
-pub no-bytes : (items : List Item) → length items ≡ 0 → bytes_of items ≤ 0
-no-bytes [] none = omega arith
-no-bytes (x ∷ items) none = absurd (omega (arith, none))
+pub no-bytes : (items : List Item) (item : Item) → length (item ∷ items) ≤ 1 → bytes_of items ≤ 0
+no-bytes [] item one = omega arith
+no-bytes (x ∷ items) item one = absurd (omega (arith, one))
 
 -- a lane has one item more in front
 pub record Appends (lane new : Lane) (item : Item) : Type 0 where
@@ -79,16 +79,16 @@ pub record Appends (lane new : Lane) (item : Item) : Type 0 where
   pub behind : new.behind ≡ lane.behind
 
 pub appended-lane : (lane new : Lane) (item : Item) (paged : Face) → IsLane (Some lane) paged → Appends lane new item → IsSoundItem item → length lane.front.items < 256
-    → new.held ≡ lane.held + length (item_bytes item) → lane.held + length (item_bytes item) ≤ 8192 → IsLane (Some new) paged
-appended-lane lane new item paged l a sound room held most =
+    → (bytes : ℕ) → length (item_bytes item) ≤ bytes → new.held ≡ lane.held + bytes → lane.held + bytes ≤ 8192 → IsLane (Some new) paged
+appended-lane lane new item paged l a sound room bytes takes held most =
     let more : length new.front.items ≡ length lane.front.items + 1 = ap length a.front ∙ length-append lane.front.items (item ∷ []) in
-    let bytes : bytes_of new.front.items ≡ bytes_of lane.front.items + length (item_bytes item) = ap bytes_of a.front ∙ bytes-behind lane.front.items item in
+    let more_bytes : bytes_of new.front.items ≡ bytes_of lane.front.items + length (item_bytes item) = ap bytes_of a.front ∙ bytes-behind lane.front.items item in
     record {
       count = omega (arith, l.count, a.count, more);
       behind = a.behind ∙ l.behind;
       runs = l.runs;
       few = omega (arith, more, room);
-      held = omega (arith, l.held, bytes, held);
+      held = omega (arith, l.held, more_bytes, takes, held);
       page = omega (arith, held, most);
       sound = subst (λ (xs : List Item). AllByRecursion IsSoundItem xs) (sym a.front) (sound-append lane.front.items item sound l.sound);
     }

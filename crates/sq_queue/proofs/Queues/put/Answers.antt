@@ -62,7 +62,7 @@ returns-clause-together c = λ told together.
     on-either c.append.result
     (on-ok-three c.append.result c.append.ensures.front c.append.ensures.held c.append.ensures.count (λ front more count.
     appended-lane lane new c.args.item (pages.paged_face q.paged c.args.arc) own (record { front = front; count = count; behind = c.append.ensures.behind }) c.requires.sound (omega (arith, few, c.requires.room.1))
-    (omega (arith, more, c.requires.bytes)) (omega (arith, held, c.requires.bytes, c.requires.room.2))))
+    c.args.bytes c.requires.bytes more (omega (arith, held, c.requires.room.2))))
     (on-err-three c.append.result c.append.ensures.front_err c.append.ensures.held_err c.append.ensures.count_err (λ front same count.
     kept-lane lane new (pages.paged_face q.paged c.args.arc) own front same count c.append.ensures.behind)))
 
