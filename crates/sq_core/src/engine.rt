@@ -159,7 +159,10 @@ impl Engine {
             self.old.engine.flow self.new.engine.flow) }
         ensures frames { OnOk result (faces.frames self.new.engine.flow.queues ≡ faces.frames self.old.engine.flow.queues) }
     {
-        self.engine.step(pick, disk, events, steps)
+        match self.engine.step(pick, disk, events, steps) {
+            Ok(progress) => Ok(progress),
+            Err(e) => Err(e),
+        }
     }
 
     /// Running as long as an actor isn't finished, and then the ready list isn't empty; done where all are; failed after an
