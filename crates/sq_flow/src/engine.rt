@@ -120,9 +120,9 @@ impl<O: Operator + Drop> Engine<O> {
     ghost use Rattle.sq_flow.specs.Flows.{fed_at_last, RiseFrom, tuples_to_come, lost_at_last};
     ghost use Rattle.sq_flow.specs.Flows.{work_at_last, taken_in_all};
     ghost use Rattle.sq_flow.specs.Plans.{IsPlanned, arrivals, last_arrival, plans_left};
-    ghost use Rattle.sq_flow.specs.Stepping.{stage, TrainOk, StepErr};
-    ghost use Rattle.sq_flow.specs.Readiness.{Took};
-    ghost use Rattle.sq_flow.specs.Engines.{IsEngine, HasSeats, Looked, AllDone, newly_ready, listed_after, readers_of};
+    ghost use Rattle.sq_flow.specs.Stepping.{stage, StepErr};
+    ghost use Rattle.sq_flow.specs.EngineSteps.{EngineOk};
+    ghost use Rattle.sq_flow.specs.Engines.{IsEngine, HasSeats, Looked, AllDone, newly_ready, readers_of};
     ghost use Rattle.sq_flow.specs.Seats.{taken_at, lost_at, holds_at};
     ghost use Rattle.sq_flow.specs.Starts.{IsNewSeat, IsNewFlow};
     ghost use Rattle.sq_flow.specs.Wiring.{net_of, IsOwn, IsShaped};
@@ -221,12 +221,8 @@ impl<O: Operator + Drop> Engine<O> {
         requires together { Together self.old.flow.queues (known (D.log disk.old)) }
         requires ready { contains_number self.old.ready.list pick.actor ≡ true }
         requires some { 1 ≤ pick.train }
-        ensures ok { IfOk result (TrainOk O.Operator (seat_number (length self.old.flow.seats.items) pick.actor) pick.train
-            (stage D.PageDisk self.old.flow disk.old events.old.items steps.old) (stage D.PageDisk self.new.flow disk.new events.new.items steps.new)) }
-        ensures engine { OnOk result (IsEngine O.Operator self.new) }
-        ensures order { OnOk result (self.new.ready.list ≡ listed_after self.new.flow self.old.ready.list pick.actor) }
-        ensures works { IfOk result (λ p. (p.fed ≡ 0) → p.finished ≡ true) }
-        ensures took { IfOk result (λ p. Took (seat_number (length self.old.flow.seats.items) pick.actor) p.fed p.finished self.old.flow self.new.flow) }
+        ensures ok { IfOk result (EngineOk O.Operator pick (stage D.PageDisk self.old.flow disk.old events.old.items steps.old)
+            (stage D.PageDisk self.new.flow disk.new events.new.items steps.new) self.old self.new) }
         ensures err { IfErr result (StepErr O.Operator (stage D.PageDisk self.old.flow disk.old events.old.items steps.old)
             (stage D.PageDisk self.new.flow disk.new events.new.items steps.new)) }
         ensures failed { OnErr result (self.new.failed ≡ true) }

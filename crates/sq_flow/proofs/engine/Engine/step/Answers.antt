@@ -6,53 +6,34 @@ use Rattle.sq_flow.specs.Stepping.{stage, TrainOk}
 use Rattle.sq_flow.proofs.EngineLemmas.{engine-after, engine-order}
 use Rattle.sq_flow.proofs.engine.Engine.step.Goals as goal
 
-pub returns-in-Ok-clause-engine : goal.returns-in-Ok-clause-engine
-returns-in-Ok-clause-engine g c =
-    let a = c.args.self.now in
-    let did = c.in-Ok.ensures.ok.moves in
-    engine-after _ a (record { flow = c.train.new.self; ready = c.remove.new.self; waits = a.waits; failed = a.failed })
-    c.look_at.new.self c.look_at_readers.new.self c.args.pick.actor c.seat_number-place.result c.requires.engine c.requires.ready c.seat_number-place.ensures.place
-    did.stepped.flow_after did.stepped.wires did.stepped.seats did.touches c.remove.ensures.list refl c.requires.engine.running c.look_at.ensures c.look_at_readers.ensures
-
-pub returns-in-Ok-clause-order : goal.returns-in-Ok-clause-order
-returns-in-Ok-clause-order g c =
-    let a = c.args.self.now in
-    let did = c.in-Ok.ensures.ok.moves in
-    engine-order _ a (record { flow = c.train.new.self; ready = c.remove.new.self; waits = a.waits; failed = a.failed })
-    c.look_at.new.self c.look_at_readers.new.self c.args.pick.actor c.seat_number-place.result c.requires.engine c.requires.ready c.seat_number-place.ensures.place
-    did.stepped.flow_after did.stepped.wires did.stepped.seats did.touches c.remove.ensures.list refl c.requires.engine.running c.look_at.ensures c.look_at_readers.ensures
-
 pub returns-in-Ok-clause-ok : goal.returns-in-Ok-clause-ok
 returns-in-Ok-clause-ok g c =
-    let place_is : seat_number (length c.args.self.now.flow.seats.items) c.args.pick.actor ≡ c.seat_number-place.result =
-    subst (λ n. seat_number n c.args.pick.actor ≡ c.seat_number-place.result) c.requires.engine.flow.shaped.replay_is (sym c.seat_number-place.ensures.place)
-    in
-    rw (c.look_at_readers.ensures.flow ∙ c.look_at.ensures.flow)
-    (subst (λ n. TrainOk g.O.Operator n c.args.pick.train (stage g.D.PageDisk c.args.self.now.flow c.args.disk.now c.args.events.now.items c.args.steps.now)
-    (stage g.D.PageDisk c.train.new.self c.train.new.disk c.train.new.events.items c.train.new.steps) c.in-Ok.progress) (sym place_is) c.in-Ok.ensures.ok)
-
-pub returns-in-Ok-clause-works : goal.returns-in-Ok-clause-works
-returns-in-Ok-clause-works g c =
-    let low : c.args.pick.actor < c.args.self.now.ready.actors = c.requires.engine.below c.args.pick.actor c.requires.ready in
+    let a = c.args.self.now in
+    let train = c.in-Ok.ensures.ok in
+    let did = train.moves in
+    let looked = c.look_at_readers.ensures.flow ∙ c.look_at.ensures.flow in
+    let removed = record { flow = c.train.new.self; ready = c.remove.new.self; waits = a.waits; failed = a.failed } in
+    let low : c.args.pick.actor < a.ready.actors = c.requires.engine.below c.args.pick.actor c.requires.ready in
     let many = c.requires.engine.room.actors in
     let listed = (c.requires.engine.exact c.args.pick.actor (omega (arith, low, many))).listed c.requires.ready in
-    let place_is : seat_number (length c.args.self.now.flow.seats.items) c.args.pick.actor ≡ c.seat_number-place.result =
+    let place_is : seat_number (length a.flow.seats.items) c.args.pick.actor ≡ c.seat_number-place.result =
     subst (λ n. seat_number n c.args.pick.actor ≡ c.seat_number-place.result) c.requires.engine.flow.shaped.replay_is (sym c.seat_number-place.ensures.place)
     in
-    c.in-Ok.ensures.ok.works (subst (IsReady c.args.self.now.flow) place_is listed)
-
-pub returns-in-Ok-clause-took : goal.returns-in-Ok-clause-took
-returns-in-Ok-clause-took g c =
-    let low : c.args.pick.actor < c.args.self.now.ready.actors = c.requires.engine.below c.args.pick.actor c.requires.ready in
-    let many = c.requires.engine.room.actors in
-    let listed = (c.requires.engine.exact c.args.pick.actor (omega (arith, low, many))).listed c.requires.ready in
-    let place_is : seat_number (length c.args.self.now.flow.seats.items) c.args.pick.actor ≡ c.seat_number-place.result =
-    subst (λ n. seat_number n c.args.pick.actor ≡ c.seat_number-place.result) c.requires.engine.flow.shaped.replay_is (sym c.seat_number-place.ensures.place)
-    in
-    let took = c.in-Ok.ensures.ok.took (subst (IsReady c.args.self.now.flow) place_is listed).running in
-    subst (λ (f : Flow g.row.O.Denot). Took (seat_number (length c.args.self.now.flow.seats.items) c.args.pick.actor) c.in-Ok.progress.fed c.in-Ok.progress.finished c.args.self.now.flow f)
-    (sym (c.look_at_readers.ensures.flow ∙ c.look_at.ensures.flow))
-    (subst (λ n. Took n c.in-Ok.progress.fed c.in-Ok.progress.finished c.args.self.now.flow c.train.new.self) (sym place_is) took)
+    let ready = subst (IsReady a.flow) place_is listed in
+    record {
+      train = rw looked
+          (subst (λ n. TrainOk g.O.Operator n c.args.pick.train (stage g.D.PageDisk a.flow c.args.disk.now c.args.events.now.items c.args.steps.now)
+          (stage g.D.PageDisk c.train.new.self c.train.new.disk c.train.new.events.items c.train.new.steps) c.in-Ok.progress) (sym place_is) train);
+      engine = engine-after _ a removed
+          c.look_at.new.self c.look_at_readers.new.self c.args.pick.actor c.seat_number-place.result c.requires.engine c.requires.ready c.seat_number-place.ensures.place
+          did.stepped.flow_after did.stepped.wires did.stepped.seats did.touches c.remove.ensures.list refl c.requires.engine.running c.look_at.ensures c.look_at_readers.ensures;
+      order = engine-order _ a removed
+          c.look_at.new.self c.look_at_readers.new.self c.args.pick.actor c.seat_number-place.result c.requires.engine c.requires.ready c.seat_number-place.ensures.place
+          did.stepped.flow_after did.stepped.wires did.stepped.seats did.touches c.remove.ensures.list refl c.requires.engine.running c.look_at.ensures c.look_at_readers.ensures;
+      works = train.works ready;
+      took = subst (λ (f : Flow g.row.O.Denot). Took (seat_number (length a.flow.seats.items) c.args.pick.actor) c.in-Ok.progress.fed c.in-Ok.progress.finished a.flow f) (sym looked)
+          (subst (λ n. Took n c.in-Ok.progress.fed c.in-Ok.progress.finished a.flow c.train.new.self) (sym place_is) (train.took ready.running));
+    }
 
 pub returns-in-Err-clause-err : goal.returns-in-Err-clause-err
 returns-in-Err-clause-err g c = c.in-Err.ensures.err
