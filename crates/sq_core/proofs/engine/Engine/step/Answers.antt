@@ -3,30 +3,33 @@ use Rattle.sq_pool.specs.Trust.{known}
 use Rattle.sq_core.proofs.RunLemmas.{run-after, sound-after, stopped-after, shows-after}
 use Rattle.sq_core.proofs.engine.Engine.step.Goals as goal
 
-pub returns-in-Ok-clause-run : goal.returns-in-Ok-clause-run
-returns-in-Ok-clause-run g c =
-    run-after (known (g.D.PageDisk.log c.args.disk.now)) (known (g.D.PageDisk.log c.step.new.disk)) c.args.self.now (record c.args.self.now { engine = c.step.new.self })
-    c.args.events.now.items c.step.new.events.items refl c.in-Ok.ensures.ok.moves.stepped c.in-Ok.ensures.engine c.args.steps.now c.step.new.steps c.in-Ok.ensures.ok.moves.cost
+pub returns-in-Ok-clause-ok : goal.returns-in-Ok-clause-ok
+returns-in-Ok-clause-ok g c =
+    let was = known (g.D.PageDisk.log c.args.disk.now) in
+    let is = known (g.D.PageDisk.log c.step.new.disk) in
+    let after = record c.args.self.now { engine = c.step.new.self } in
+    let step = c.in-Ok.ensures.ok in
+    let moves = step.train.moves in
+    record {
+      step = step;
+      sound = sound-after was is c.args.self.now after c.args.events.now.items c.step.new.events.items refl moves.stepped step.engine c.requires.sound;
+      run = run-after was is c.args.self.now after c.args.events.now.items c.step.new.events.items refl moves.stepped step.engine c.args.steps.now c.step.new.steps moves.cost;
+      shows = shows-after was is c.args.self.now after c.args.events.now.items c.step.new.events.items refl moves.stepped step.engine c.requires.sound;
+    }
 
-pub returns-in-Ok-clause-sound : goal.returns-in-Ok-clause-sound
-returns-in-Ok-clause-sound g c =
-    sound-after (known (g.D.PageDisk.log c.args.disk.now)) (known (g.D.PageDisk.log c.step.new.disk)) c.args.self.now (record c.args.self.now { engine = c.step.new.self })
-    c.args.events.now.items c.step.new.events.items refl c.in-Ok.ensures.ok.moves.stepped c.in-Ok.ensures.engine c.requires.sound
+pub returns-in-Err-clause-err : goal.returns-in-Err-clause-err
+returns-in-Err-clause-err g c =
+    let step = c.in-Err.ensures.err in
+    record {
+      step = step;
+      failed = c.in-Err.ensures.failed;
+      stopped = stopped-after (known (g.D.PageDisk.log c.args.disk.now)) (known (g.D.PageDisk.log c.step.new.disk)) c.args.self.now (record c.args.self.now { engine = c.step.new.self })
+          c.args.events.now.items c.step.new.events.items refl (g.D.PageDisk.log c.args.disk.now).honest step.keeps.later.known c.args.steps.now c.step.new.steps c.in-Err.e
+          step.prefix step.plans step.cost step.strange step.too_much;
+    }
 
-pub returns-in-Ok-clause-shows : goal.returns-in-Ok-clause-shows
-returns-in-Ok-clause-shows g c =
-    shows-after (known (g.D.PageDisk.log c.args.disk.now)) (known (g.D.PageDisk.log c.step.new.disk)) c.args.self.now (record c.args.self.now { engine = c.step.new.self })
-    c.args.events.now.items c.step.new.events.items refl c.in-Ok.ensures.ok.moves.stepped c.in-Ok.ensures.engine c.requires.sound
+pub returns-in-Ok-clause-keeps : goal.returns-in-Ok-clause-keeps
+returns-in-Ok-clause-keeps g c = c.in-Ok.ensures.ok.train.moves.keeps
 
-pub returns-in-Ok-clause-goes : goal.returns-in-Ok-clause-goes
-returns-in-Ok-clause-goes g c = c.in-Ok.ensures.ok.moves.stepped
-
-pub returns-in-Err-clause-stopped : goal.returns-in-Err-clause-stopped
-returns-in-Err-clause-stopped g c =
-    let e = c.in-Err.ensures.err in
-    stopped-after (known (g.D.PageDisk.log c.args.disk.now)) (known (g.D.PageDisk.log c.step.new.disk)) c.args.self.now (record c.args.self.now { engine = c.step.new.self })
-    c.args.events.now.items c.step.new.events.items refl (g.D.PageDisk.log c.args.disk.now).honest e.keeps.later.known c.args.steps.now c.step.new.steps c.in-Err.e
-    e.prefix e.plans e.cost e.strange e.too_much
-
-pub returns-in-Err-clause-feed : goal.returns-in-Err-clause-feed
-returns-in-Err-clause-feed g c = c.in-Err.ensures.err.feed
+pub returns-in-Err-clause-keeps : goal.returns-in-Err-clause-keeps
+returns-in-Err-clause-keeps g c = c.in-Err.ensures.err.keeps
