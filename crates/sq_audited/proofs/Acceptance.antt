@@ -1,11 +1,12 @@
--- What is accepted of words and files can be audited: the network is sound, its drop points keep their limits, and the sources
--- recorded streams.
+-- What words come to by what was read can be audited, if it is accepted: the network is sound, its drop points keep their limits, and the
+-- sources recorded streams.
 use Rattle.std.proofs.Common.{◌≡◌, ℕ, ◌+◌, Bool, true, false, not, ◌&&◌, cond, List, [], ◌∷◌, ◌++◌, length, refl, ap, sym, ◌∙◌, subst, Option, Some, None}
-use Rattle.std.specs.Prelude.{Result, Ok, Err, option_map}
+use Rattle.std.specs.Prelude.{⊤, Result, Ok, Err, option_map}
 use Rattle.std.specs.List.{AllByRecursion, list_all, position_from}
 use Rattle.std.proofs.lemmas.Bool.{and_parts}
 use Rattle.std.proofs.lemmas.Iterator.Adapters.{position_from-zero}
 use Rattle.std.proofs.lemmas.List.Elements.{All-from_recursion}
+use Rattle.sq_outside.specs.Folders.{Files}
 use Rattle.sq_value.specs.declared.Tuple.{Tuple}
 use Rattle.sq_value.specs.Values.{IsStream}
 use Rattle.sq_place.specs.declared.DropPoint.{DropPoint}
@@ -36,17 +37,17 @@ use Rattle.sq_gen.specs.Files.{made_of}
 use Rattle.sq_command.specs.declared.Command.{Command}
 use Rattle.sq_command.specs.declared.Command.TheVariants as command
 use Rattle.sq_command.specs.declared.RunArgs.{RunArgs}
-use Rattle.sq_status.specs.declared.Status.{Status}
 use Rattle.sq_tap.specs.declared.TapErr.{TapErr}
 use Rattle.sq_tap.specs.Names.{stream_named}
 use Rattle.sq_command.specs.Commands.{command_in}
 use Rattle.sq_work.specs.Taps.{Tapped, first_tick, tapped}
-use Rattle.sq_work.specs.Scripts.{Lookup, AcceptedReplay, Script, Reads, Done, Stops, after_capacities, after_network, after_picks, after_query, after_stream, after_streams, after_tap, after_tapped, after_words, capacities_script, followed_by, go_on, made_limits, made_sources, made_streams, made_unread, outcome_of, picks_script, plain_args, readable, run_script, stream_limit, tap_script, tap_unread, text_limit, text_script, unread, with_sources, with_text}
+use Rattle.sq_work.specs.Reads.{GoesBy}
+use Rattle.sq_work.specs.Scripts.{AcceptedReplay, Script, Done, after_capacities, after_network, after_picks, after_query, after_stream, after_streams, after_tap, after_tapped, after_words, capacities_script, made_limits, made_sources, made_streams, made_unread, picks_script, plain_args, run_script, script_of, tap_unread, text_script, unread, with_sources}
 use Rattle.sq_work.proofs.JoinLemmas.{tapped_limits, tapped_sound}
+use Rattle.sq_top.proofs.ReadsLemmas.{Holds, goes_holds, holds_then}
 use Rattle.sq_top.proofs.SourceLemmas.{sources_within, streams_more}
 use Rattle.sq_audited.specs.Laws.{AcceptsRuns}
 use Rattle.sq_audited.proofs.Wholes.{accepts_replays}
-use Rattle.sq_reader.specs.Limits.{settings_limit}
 use Rattle.sq_words.specs.Results.{◌>>=◌}
 use Rattle.sq_work.proofs.SourceLemmas.{text_is_recorded}
 
@@ -91,158 +92,114 @@ network_limits bytes n h = limits_from (network_table_of bytes >>= typed_network
 
 -- ---- the order of work
 
-record IsAuditable (n : Network) (r : AcceptedReplay) : Type 0 where
-  network : n ≡ r.network
-  streams : AllByRecursion IsStream r.sources
-
-module _ (files : Lookup) (r : AcceptedReplay) (Q : Type 0) where
-  file_ok : (read : Result (List ℕ) Status) (more : List ℕ → Script) → ((bytes : List ℕ) → outcome_of files (more bytes) ≡ Ok r → Q)
-      → go_on (λ s. Err s) (λ bytes. outcome_of files (more bytes)) read ≡ Ok r → Q
-  file_ok (Ok bytes) more rest e = rest bytes e
-  file_ok (Err s) more rest e = absurd (cc)
-
-  stream_ok : (s : Source) (bytes : List ℕ) (number : ℕ) (more : List Tuple → Script) (o : Result (List Tuple) (ℕ × Why)) → stream_in s.schema bytes ≡ o
-      → ((xs : List Tuple) → stream_in s.schema bytes ≡ Ok xs → outcome_of files (more xs) ≡ Ok r → Q) → outcome_of files (after_stream number more o) ≡ Ok r → Q
-  stream_ok s bytes number more (Ok xs) said rest e = rest xs said e
-  stream_ok s bytes number more (Err w) said rest e = absurd (cc)
-
-own : (p r : AcceptedReplay) → ◌≡◌ {A = Result AcceptedReplay Status} (Ok p) (Ok r) → p ≡ r
-own p r e = cc
-
-ended : (p r : AcceptedReplay) → AllByRecursion IsStream p.sources → p ≡ r → IsAuditable p.network r
-ended p r h same = record { network = ap (λ (x : AcceptedReplay). x.network) same; streams = subst (λ (x : AcceptedReplay). AllByRecursion IsStream x.sources) same h }
-
-streams_ok : (files : Lookup) (p : AcceptedReplay) (left : List Source) (r : AcceptedReplay) → list_all source_within left ≡ true → AllByRecursion IsStream p.sources
-    → outcome_of files (after_streams p left) ≡ Ok r → IsAuditable p.network r
-streams_ok files p [] r within h e = ended p r h (own p r e)
-streams_ok files p (s ∷ left) r within h e =
-    let more = λ (xs : List Tuple). after_streams (with_sources p (p.sources ++ xs ∷ [])) left in
-    let both = and_parts (source_within s) (list_all source_within left) within in
-    file_ok files r (IsAuditable p.network r) (readable s.file stream_limit (files s.file)) (λ bytes. after_stream (length p.sources) more (stream_in s.schema bytes))
-    (λ bytes. stream_ok files r (IsAuditable p.network r) s bytes (length p.sources) more (stream_in s.schema bytes) refl
-    (λ xs said. streams_ok files (with_sources p (p.sources ++ xs ∷ [])) left r both.1 (streams_more p.sources xs h (text_is_recorded s bytes xs both.0 said).stream))) e
-
-made_ok : (files : Lookup) (stream : List ℕ) (p : AcceptedReplay) (left : List Source) (r : AcceptedReplay) → list_all source_within left ≡ true → AllByRecursion IsStream p.sources
-    → outcome_of files (made_streams stream p left) ≡ Ok r → IsAuditable p.network r
-made_ok files stream p [] r within h e = ended p r h (own p r e)
-made_ok files stream p (s ∷ left) r within h e =
-    let more = λ (xs : List Tuple). made_streams stream (with_sources p (p.sources ++ xs ∷ [])) left in
-    let both = and_parts (source_within s) (list_all source_within left) within in
-    stream_ok files r (IsAuditable p.network r) s stream (length p.sources) more (stream_in s.schema stream) refl
-    (λ xs said. made_ok files stream (with_sources p (p.sources ++ xs ∷ [])) left r both.1 (streams_more p.sources xs h (text_is_recorded s stream xs both.0 said).stream)) e
-
-module _ (files : Lookup) (n : Network) (within : list_all source_within n.sources ≡ true) (r : AcceptedReplay) where
-  module _ (args : RunArgs) where
-    picks_ok : (entries : Entries) (o : Result (List ℕ) ℕ) → outcome_of files (after_picks args n entries o) ≡ Ok r → IsAuditable n r
-    picks_ok entries (Ok picks) e = streams_ok files (unread args n entries picks) n.sources r within tt e
-    picks_ok entries (Err line) e = absurd (cc)
-
-    picked_ok : (entries : Entries) (o : Option (List ℕ)) → outcome_of files (picks_script args n entries o) ≡ Ok r → IsAuditable n r
-    picked_ok entries None e = picks_ok entries (Ok []) e
-    picked_ok entries (Some name) e =
-        file_ok files r (IsAuditable n r) (readable name settings_limit (files name)) (λ bytes. after_picks args n entries (picks_in bytes)) (λ bytes. picks_ok entries (picks_in bytes)) e
-
-    capacities_ok : (o : Result Entries ℕ) → outcome_of files (after_capacities args n o) ≡ Ok r → IsAuditable n r
-    capacities_ok (Ok entries) e = picked_ok entries args.picks e
-    capacities_ok (Err line) e = absurd (cc)
-
-    named_ok : (o : Option (List ℕ)) → outcome_of files (capacities_script args n o) ≡ Ok r → IsAuditable n r
-    named_ok None e = capacities_ok (Ok []) e
-    named_ok (Some name) e =
-        file_ok files r (IsAuditable n r) (readable name settings_limit (files name)) (λ bytes. after_capacities args n (capacities_in bytes)) (λ bytes. capacities_ok (capacities_in bytes)) e
-
-  made_sources_ok : (number : ℕ) (stream : List ℕ) (o : Result Entries ℕ) → outcome_of files (made_sources number stream n o) ≡ Ok r → IsAuditable n r
-  made_sources_ok number stream (Ok entries) e = made_ok files stream (made_unread number n entries) n.sources r within tt e
-  made_sources_ok number stream (Err line) e = absurd (cc)
-
--- what is accepted can be audited
-record IsAccepted (r : AcceptedReplay) : Type 0 where
+-- the network is sound, its drop points keep their limits, and the sources recorded streams
+record IsAuditable (r : AcceptedReplay) : Type 0 where
   sound : IsSound r.network
   limits : KeepsDropLimits r.network
   streams : AllByRecursion IsStream r.sources
 
-file_within : (bytes : List ℕ) (n : Network) → network_in bytes ≡ Ok n → list_all source_within n.sources ≡ true
-file_within bytes n said = sources_within n (network_sound bytes n said).within
+-- whatever is read, what a script accepts in the end can be audited
+abbrev CanBeAudited : Script → Type 0
+CanBeAudited s = Holds IsAuditable (λ status. ⊤) (λ name limit. ⊤) s
 
-accepted_of : (bytes : List ℕ) (n : Network) (r : AcceptedReplay) → network_in bytes ≡ Ok n → IsAuditable n r → IsAccepted r
-accepted_of bytes n r said a = record {
-  sound = subst IsSound a.network (network_sound bytes n said);
-  limits = subst KeepsDropLimits a.network (network_limits bytes n said);
-  streams = a.streams;
-}
+unread_ok : (p : AcceptedReplay) → IsSound p.network → KeepsDropLimits p.network → p.sources ≡ [] → IsAuditable p
+unread_ok p sound limits none = record { sound = sound; limits = limits; streams = subst (AllByRecursion IsStream) (sym none) tt }
 
-network_ok : (files : Lookup) (args : RunArgs) (bytes : List ℕ) (o : Result Network NetErr) (r : AcceptedReplay) → network_in bytes ≡ o → outcome_of files (after_network args o) ≡ Ok r → IsAccepted r
-network_ok files args bytes (Ok n) r said e = accepted_of bytes n r said (named_ok files n (file_within bytes n said) r args args.capacities e)
-network_ok files args bytes (Err s) r said e = absurd (cc)
+-- with the stream of one source more
+stream_more : (p : AcceptedReplay) (s : Source) (bytes : List ℕ) (xs : List Tuple) → source_within s ≡ true → IsAuditable p → stream_in s.schema bytes ≡ Ok xs → IsAuditable (with_sources p (p.sources ++ xs ∷ []))
+stream_more p s bytes xs within a said = record { sound = a.sound; limits = a.limits; streams = streams_more p.sources xs a.streams (text_is_recorded s bytes xs within said).stream }
 
-made_limits_ok : (files : Lookup) (number : ℕ) (made : Made) (o : Result Network NetErr) (r : AcceptedReplay) → network_in made.net ≡ o → outcome_of files (made_limits number made o) ≡ Ok r → IsAccepted r
-made_limits_ok files number made (Ok n) r said e =
-    accepted_of made.net n r said (made_sources_ok files n (file_within made.net n said) r number made.stream (capacities_in made.capacities) e)
-made_limits_ok files number made (Err s) r said e = absurd (cc)
+stream_ok : (s : Source) (bytes : List ℕ) (number : ℕ) (more : List Tuple → Script) (o : Result (List Tuple) (ℕ × Why)) → stream_in s.schema bytes ≡ o
+    → ((xs : List Tuple) → stream_in s.schema bytes ≡ Ok xs → CanBeAudited (more xs)) → CanBeAudited (after_stream number more o)
+stream_ok s bytes number more (Ok xs) said rest = rest xs said
+stream_ok s bytes number more (Err w) said rest = tt
 
-run_ok : (files : Lookup) (args : RunArgs) (r : AcceptedReplay) → outcome_of files (run_script args) ≡ Ok r → IsAccepted r
-run_ok files args r e =
-    file_ok files r (IsAccepted r) (readable args.net settings_limit (files args.net)) (λ bytes. after_network args (network_in bytes)) (λ bytes. network_ok files args bytes (network_in bytes) r refl) e
+streams_ok : (p : AcceptedReplay) (left : List Source) → list_all source_within left ≡ true → IsAuditable p → CanBeAudited (after_streams p left)
+streams_ok p [] within a = a
+streams_ok p (s ∷ left) within a =
+    let both = and_parts (source_within s) (list_all source_within left) within in (
+      tt,
+      λ bytes. stream_ok s bytes (length p.sources) (λ xs. after_streams (with_sources p (p.sources ++ xs ∷ [])) left) (stream_in s.schema bytes) refl
+          (λ xs said. streams_ok (with_sources p (p.sources ++ xs ∷ [])) left both.1 (stream_more p s bytes xs both.0 a said)),
+    )
 
--- a script that is followed by another accepts what comes of what it accepts itself
-module _ (files : Lookup) (next : AcceptedReplay → Script) (r : AcceptedReplay) where
-  abbrev Passes : Result AcceptedReplay Status → Type 0
-  Passes o = (p : AcceptedReplay) → o ≡ Ok p → outcome_of files (next p) ≡ Ok r → IsAccepted r
+made_ok : (stream : List ℕ) (p : AcceptedReplay) (left : List Source) → list_all source_within left ≡ true → IsAuditable p → CanBeAudited (made_streams stream p left)
+made_ok stream p [] within a = a
+made_ok stream p (s ∷ left) within a =
+    let both = and_parts (source_within s) (list_all source_within left) within in
+    stream_ok s stream (length p.sources) (λ xs. made_streams stream (with_sources p (p.sources ++ xs ∷ [])) left) (stream_in s.schema stream) refl
+    (λ xs said. made_ok stream (with_sources p (p.sources ++ xs ∷ [])) left both.1 (stream_more p s stream xs both.0 a said))
 
-  read_on : (more : List ℕ → Script) → ((bytes : List ℕ) → outcome_of files (followed_by (more bytes) next) ≡ Ok r → Passes (outcome_of files (more bytes)) → IsAccepted r)
-      → (read : Result (List ℕ) Status) → go_on (λ s. Err s) (λ bytes. outcome_of files (followed_by (more bytes) next)) read ≡ Ok r
-      → Passes (go_on (λ s. Err s) (λ bytes. outcome_of files (more bytes)) read) → IsAccepted r
-  read_on more rest (Ok bytes) e passes = rest bytes e passes
-  read_on more rest (Err s) e passes = absurd (cc)
+module _ (bytes : List ℕ) (n : Network) (said : network_in bytes ≡ Ok n) where
+  sound : IsSound n
+  sound = network_sound bytes n said
 
-  followed_ok : (s : Script) → outcome_of files (followed_by s next) ≡ Ok r → Passes (outcome_of files s) → IsAccepted r
-  followed_ok (Reads name limit more) e passes = read_on more (λ bytes. followed_ok (more bytes)) (readable name limit (files name)) e passes
-  followed_ok (Done p) e passes = passes p refl e
-  followed_ok (Stops s) e passes = absurd (cc)
+  limits : KeepsDropLimits n
+  limits = network_limits bytes n said
 
--- with a text it is what it was
-with_text_ok : (p r : AcceptedReplay) (bytes : List ℕ) → IsAccepted p → with_text p bytes ≡ r → IsAccepted r
-with_text_ok p r bytes a same = subst IsAccepted same (record { sound = a.sound; limits = a.limits; streams = a.streams })
+  module _ (args : RunArgs) where
+    picks_ok : (entries : Entries) (o : Result (List ℕ) ℕ) → CanBeAudited (after_picks args n entries o)
+    picks_ok entries (Ok picks) = streams_ok (unread args n entries picks) n.sources (sources_within n sound.within) (unread_ok (unread args n entries picks) sound limits refl)
+    picks_ok entries (Err line) = tt
 
-text_ok : (files : Lookup) (text : List ℕ) (p r : AcceptedReplay) → IsAccepted p → outcome_of files (text_script text p) ≡ Ok r → IsAccepted r
-text_ok files text p r a e =
-    file_ok files r (IsAccepted r) (readable text text_limit (files text)) (λ bytes. Done (with_text p bytes)) (λ bytes same. with_text_ok p r bytes a (own (with_text p bytes) r same)) e
+    picked_ok : (entries : Entries) (o : Option (List ℕ)) → CanBeAudited (picks_script args n entries o)
+    picked_ok entries None = picks_ok entries (Ok [])
+    picked_ok entries (Some name) = (tt, λ more. picks_ok entries (picks_in more))
+
+    capacities_ok : (o : Result Entries ℕ) → CanBeAudited (after_capacities args n o)
+    capacities_ok (Ok entries) = picked_ok entries args.picks
+    capacities_ok (Err line) = tt
+
+    named_ok : (o : Option (List ℕ)) → CanBeAudited (capacities_script args n o)
+    named_ok None = capacities_ok (Ok [])
+    named_ok (Some name) = (tt, λ more. capacities_ok (capacities_in more))
+
+  made_sources_ok : (number : ℕ) (stream : List ℕ) (o : Result Entries ℕ) → CanBeAudited (made_sources number stream n o)
+  made_sources_ok number stream (Ok entries) = made_ok stream (made_unread number n entries) n.sources (sources_within n sound.within) (unread_ok (made_unread number n entries) sound limits refl)
+  made_sources_ok number stream (Err line) = tt
+
+network_ok : (args : RunArgs) (bytes : List ℕ) (o : Result Network NetErr) → network_in bytes ≡ o → CanBeAudited (after_network args o)
+network_ok args bytes (Ok n) said = named_ok bytes n said args args.capacities
+network_ok args bytes (Err e) said = tt
+
+made_limits_ok : (number : ℕ) (made : Made) (o : Result Network NetErr) → network_in made.net ≡ o → CanBeAudited (made_limits number made o)
+made_limits_ok number made (Ok n) said = made_sources_ok made.net n said number made.stream (capacities_in made.capacities)
+made_limits_ok number made (Err e) said = tt
+
+run_ok : (args : RunArgs) → CanBeAudited (run_script args)
+run_ok args = (tt, λ bytes. network_ok args bytes (network_in bytes) refl)
+
+text_ok : (text : List ℕ) (p : AcceptedReplay) → IsAuditable p → CanBeAudited (text_script text p)
+text_ok text p a = (tt, λ bytes. record { sound = a.sound; limits = a.limits; streams = a.streams })
 
 -- what is joined
-module _ (files : Lookup) (stream : List ℕ) (from : ℕ) (r : AcceptedReplay) where
-  joined_ok : (o : Result Tapped TapErr) → ((t : Tapped) → o ≡ Ok t → IsSound t.network × KeepsDropLimits t.network) → outcome_of files (after_tap o) ≡ Ok r → IsAccepted r
-  joined_ok (Ok t) keeps e =
-      let kept = keeps t refl in
-      let a = streams_ok files (tap_unread t) t.network.sources r (sources_within t.network kept.0.within) tt e in
-      record { sound = subst IsSound a.network kept.0; limits = subst KeepsDropLimits a.network kept.1; streams = a.streams }
-  joined_ok (Err s) keeps e = absurd (cc)
+module _ (stream : List ℕ) (from : ℕ) where
+  joined_ok : (o : Result Tapped TapErr) → ((t : Tapped) → o ≡ Ok t → IsSound t.network × KeepsDropLimits t.network) → CanBeAudited (after_tap o)
+  joined_ok (Ok t) keeps = let kept = keeps t refl in streams_ok (tap_unread t) t.network.sources (sources_within t.network kept.0.within) (unread_ok (tap_unread t) kept.0 kept.1 refl)
+  joined_ok (Err e) keeps = tt
 
-  query_ok : (n : Network) → IsSound n → (bytes : List ℕ) (o : Result Network NetErr) → network_in bytes ≡ o → outcome_of files (after_query n stream from o) ≡ Ok r → IsAccepted r
-  query_ok n sound bytes (Ok q) said e =
+  query_ok : (n : Network) → IsSound n → (bytes : List ℕ) (o : Result Network NetErr) → network_in bytes ≡ o → CanBeAudited (after_query n stream from o)
+  query_ok n sound bytes (Ok q) said =
       joined_ok (tapped n (stream_named n stream) from q)
-      (λ t is. (tapped_sound n stream from q t sound (network_sound bytes q said) is, tapped_limits n stream from q t is)) e
-  query_ok n sound bytes (Err s) said e = absurd (cc)
+      (λ t is. (tapped_sound n stream from q t sound (network_sound bytes q said) is, tapped_limits n stream from q t is))
+  query_ok n sound bytes (Err e) said = tt
 
-  tapped_ok : (query bytes : List ℕ) (o : Result Network NetErr) → network_in bytes ≡ o → outcome_of files (after_tapped stream from query o) ≡ Ok r → IsAccepted r
-  tapped_ok query bytes (Ok n) said e =
-      file_ok files r (IsAccepted r) (readable query settings_limit (files query)) (λ more. after_query n stream from (network_in more))
-      (λ more. query_ok n (network_sound bytes n said) more (network_in more) refl) e
-  tapped_ok query bytes (Err s) said e = absurd (cc)
+  tapped_ok : (query bytes : List ℕ) (o : Result Network NetErr) → network_in bytes ≡ o → CanBeAudited (after_tapped stream from query o)
+  tapped_ok query bytes (Ok n) said = (tt, λ more. query_ok n (network_sound bytes n said) more (network_in more) refl)
+  tapped_ok query bytes (Err e) said = tt
 
-  tap_ok : (net query : List ℕ) → outcome_of files (tap_script net stream from query) ≡ Ok r → IsAccepted r
-  tap_ok net query e =
-      file_ok files r (IsAccepted r) (readable net settings_limit (files net)) (λ bytes. after_tapped stream from query (network_in bytes))
-      (λ bytes. tapped_ok query bytes (network_in bytes) refl) e
+command_ok : (c : Option Command) → CanBeAudited (after_words c)
+command_ok None = tt
+command_ok (Some (command.Run args)) = run_ok args
+command_ok (Some (command.Gen number rows)) = made_limits_ok number (made_of number rows) (network_in (made_of number rows).net) refl
+command_ok (Some (command.Audit net text)) = holds_then IsAuditable (λ status. ⊤) (λ name limit. ⊤) (text_script text) (text_ok text) (run_script (plain_args net)) (run_ok (plain_args net))
+command_ok (Some (command.Tap net stream tick history query)) = (tt, λ bytes. tapped_ok stream (first_tick tick history) query bytes (network_in bytes) refl)
 
-command_ok : (files : Lookup) (o : Option Command) (r : AcceptedReplay) → outcome_of files (after_words o) ≡ Ok r → IsAccepted r
-command_ok files None r e = absurd (cc)
-command_ok files (Some (command.Run args)) r e = run_ok files args r e
-command_ok files (Some (command.Gen number rows)) r e = made_limits_ok files number (made_of number rows) (network_in (made_of number rows).net) r refl e
-command_ok files (Some (command.Audit net text)) r e =
-    followed_ok files (text_script text) r (run_script (plain_args net)) e (λ p ran read. text_ok files text p r (run_ok files (plain_args net) p ran) read)
-command_ok files (Some (command.Tap net stream tick history query)) r e = tap_ok files stream (first_tick tick history) r net query e
+-- what words come to by what was read can be audited, if it is accepted
+auditable : (words : List (List ℕ)) (told : Option Files) (read : List (List ℕ × List ℕ)) (r : AcceptedReplay) → GoesBy told read (script_of words) (Done r) → IsAuditable r
+auditable words told read r goes = goes_holds IsAuditable (λ status. ⊤) (λ name limit. ⊤) told read (script_of words) (Done r) goes (command_ok (command_in words))
 
 pub accepts_runs : AcceptsRuns
-accepts_runs files words r text e h =
-    let a = command_ok files (command_in words) r e in
+accepts_runs words told read r text goes h =
+    let a = auditable words told read r goes in
     accepts_replays r text a.sound a.limits (All-from_recursion IsStream r.sources a.streams) h

@@ -1,8 +1,8 @@
 //! What a run writes where it ends well has the verdict yes: the law that joins what the top call promises of its text and what
 //! the audit asks of it.
 //!
-//! It offers laws alone, over the definitions of both: of a replay, and of words and files that are accepted. Below stand `sq_top`
-//! (which words and files are accepted, and what their text is) and `sq_audit` (the verdict).
+//! It offers laws alone, over the definitions of both: of a replay, and of words that come to what is accepted by what was read. Below
+//! stand `sq_top` (what words come to, and what their text is) and `sq_audit` (the verdict).
 #![tactic(auto)]
 
 ghost use Rattle.sq_audited.specs.Laws.{AcceptsReplays, AcceptsRuns};
@@ -13,7 +13,8 @@ pub fn replays_are_accepted()
     ensures { AcceptsReplays }
 {}
 
-/// Where words and files are accepted, a text that is whole for them has the verdict yes on their network and sources.
+/// Where words come to what is accepted by what was read, whatever the folder, a text that is whole for it has the verdict yes on its
+/// network and sources.
 pub fn runs_are_accepted()
     ensures { AcceptsRuns }
 {}

@@ -3,15 +3,12 @@ use Rattle.sq_actor.specs.declared.actor.Actor.{Actor}
 use Rattle.std.proofs.Common.{Bool, List, ap, arith, false, inl, inr, refl, subst, suc, sym, true, zero, ℕ, ◌≡◌, ◌≤◌, ◌∙◌, ◌<◌}
 use Rattle.sq_outside.specs.Disks.{DiskLog}
 use Rattle.sq_core.specs.declared.engine.Engine.{Engine}
-use Rattle.sq_oper.specs.declared.outs.Event.{Event}
-use Rattle.sq_drive.specs.Stopping.{FailedIn, IsLastFeed, StopHasCause, status_of}
-use Rattle.sq_flow.specs.Flows.{FailsAt}
+use Rattle.sq_drive.specs.Stopping.{FailedIn, StopHasCause, status_of}
 use Rattle.sq_flow.specs.Readiness.{FallsBy}
 use Rattle.sq_flow.specs.declared.flow.Flow.{Flow}
 use Rattle.sq_flow.specs.Causes.{IsCauseIn, IsPageRefused}
 use Rattle.sq_drive.specs.Driving.{IsCutShort}
 use Rattle.sq_drive.specs.Writing.{IsLost}
-use Rattle.sq_core.specs.Meanings.{actors}
 use Rattle.sq_flow.specs.Takes.{NotChanged}
 use Rattle.sq_paged.specs.declared.store.QueueErr.{QueueErr}
 use Rattle.sq_queue.specs.declared.Queues.{Queues}
@@ -19,7 +16,6 @@ use Rattle.sq_outside.specs.Faults.{Rose}
 use Rattle.sq_flow.specs.declared.errors.RunErr.{RunErr}
 use Rattle.sq_status.specs.declared.Status.{Status}
 use Rattle.sq_status.specs.StatusKinds.{is_changed, is_garbled}
-use Rattle.sq_pool.specs.Trust.{known}
 use Rattle.sq_work.proofs.StoppedLemmas.{rose_later}
 use Rattle.sq_flow.specs.declared.errors.RunErr.TheVariants as run_err
 use Rattle.sq_paged.specs.declared.store.QueueErr.TheVariants as queue
@@ -39,19 +35,16 @@ stop_map P Q was is was' is' before now before' now' (status.Strange arc item) r
 stop_map P Q was is was' is' before now before' now' status.TooMuch rose back of h = failed_map P Q _ _ of (λ flow shows. shows) h
 stop_map P Q was is was' is' before now before' now' s rose back of h = tt
 
-pub last_feed : (log now : DiskLog) (flow flow' : Flow Actor) (events : List Event) (e : RunErr) → FailsAt actors log now flow flow' events e → IsLastFeed flow' e
-last_feed log now flow flow' events e fails = record { before = fails.before; was = known fails.mid; is = known now; feed = fails.feed }
-
 -- why a step failed
 pub step_cause : (P : Engine → Type 0) (to : Engine) (was is : DiskLog) (before now : ℕ) (e : RunErr) → P to → to.engine.failed ≡ true → IsCauseIn to.engine.flow was is before now e
-    → IsLastFeed to.engine.flow e → StopHasCause P was is before now (status_of e)
-step_cause P to was is before now run_err.Disk of failed cause last = cause
-step_cause P to was is before now (run_err.Garbled page kept got) of failed cause last =
+    → StopHasCause P was is before now (status_of e)
+step_cause P to was is before now run_err.Disk of failed cause = cause
+step_cause P to was is before now (run_err.Garbled page kept got) of failed cause =
     (cause.refusal.2.3, record { engine = to; of_run = of; failed = failed; shows = cause })
-step_cause P to was is before now (run_err.NotAPage page bytes) of failed cause last = record { engine = to; of_run = of; failed = failed; shows = cause }
-step_cause P to was is before now (run_err.Strange arc item) of failed cause last = record { engine = to; of_run = of; failed = failed; shows = (cause, last) }
-step_cause P to was is before now run_err.TooMuch of failed cause last = record { engine = to; of_run = of; failed = failed; shows = last }
-step_cause P to was is before now run_err.Memory of failed cause last = tt
+step_cause P to was is before now (run_err.NotAPage page bytes) of failed cause = record { engine = to; of_run = of; failed = failed; shows = cause }
+step_cause P to was is before now (run_err.Strange arc item) of failed cause = record { engine = to; of_run = of; failed = failed; shows = cause }
+step_cause P to was is before now run_err.TooMuch of failed cause = record { engine = to; of_run = of; failed = failed; shows = tt }
+step_cause P to was is before now run_err.Memory of failed cause = tt
 
 pub step_unchanged : (honest : Bool) (e : RunErr) → NotChanged honest e → honest ≡ true → is_changed (status_of e) ≡ false
 step_unchanged honest run_err.Disk named is = refl

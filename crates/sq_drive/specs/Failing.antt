@@ -18,7 +18,8 @@ pub record WentOn (was is : Option Pages) (from to : Engine) : Type 0 where
   pub shown : List Event
   pub stepped : Stepped actors was is from.engine.flow to.engine.flow [] shown
 
--- from one engine, by steps that ended well, it came to another, of the same network, whose last step failed with the error of this status
+-- from one engine, by steps that ended well, it came to another, of the same network, whose last feed failed with the error of this status:
+-- where the item was strange, or too much, it took the first of an arc and no more
 pub record CameTo (was is : DiskLog) (from : Engine) (s : Status) (to : Engine) : Type 0 where
   pub network : to.network ≡ from.network
   pub error : RunErr

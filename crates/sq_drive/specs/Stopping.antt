@@ -1,13 +1,13 @@
 -- Why the engine of a run stopped, and what shows it.
-use Rattle.std.specs.Prelude.{◌≡◌, ⊤, ℕ, true, Option}
-use Rattle.sq_outside.specs.Disks.{DiskLog, Pages}
+use Rattle.std.specs.Prelude.{◌≡◌, ⊤, ℕ, true}
+use Rattle.sq_outside.specs.Disks.{DiskLog}
 use Rattle.sq_outside.specs.Faults.{Rose}
 use Rattle.sq_paged.specs.declared.store.QueueErr.TheVariants as queue
 use Rattle.sq_actor.specs.declared.actor.Actor.{Actor}
 use Rattle.sq_flow.specs.declared.flow.Flow.{Flow}
 use Rattle.sq_flow.specs.declared.errors.RunErr.{RunErr}
 use Rattle.sq_flow.specs.declared.errors.RunErr.TheVariants as error
-use Rattle.sq_flow.specs.Causes.{IsFeedCause, IsPageRefused, IsStrangeIn}
+use Rattle.sq_flow.specs.Causes.{IsPageRefused, IsStrangeIn}
 use Rattle.sq_core.specs.declared.engine.Engine.{Engine}
 use Rattle.sq_status.specs.declared.Status.{Status}
 use Rattle.sq_status.specs.declared.Status.TheVariants as status
@@ -28,21 +28,14 @@ pub record FailedIn (IsOfRun : Engine → Type 0) (Shows : Flow Actor → Type 0
   pub failed : engine.engine.failed ≡ true
   pub shows : Shows engine.engine.flow
 
--- the last feed of a flow took an item and no more, which shows why it failed: the flow right before that feed
-pub record IsLastFeed (flow : Flow Actor) (e : RunErr) : Type 0 where
-  pub before : Flow Actor
-  pub was : Option Pages
-  pub is : Option Pages
-  pub feed : IsFeedCause before flow was is e
-
--- over every disk, by its log and its faults before a run and now: the disk is at fault only where its count rose, a page is garbled only
--- where the two digests differ, and bytes are no page only where they came back to the queues in the run and were refused; an item is
--- strange only where the last feed took it and its operator may not be fed it, and it is too much only where the last feed took an item
--- that brings what is counted to 2^62 or more
+-- over every disk, by its log and its faults before a run and now: the disk is at fault only where its count rose. Else an engine of the
+-- run failed: a page is garbled only where the two digests differ, and bytes are no page only where they came back to its queues in the run
+-- and were refused; an item is strange only where the operator that reads its arc may not be fed it. Which item its last feed took, a
+-- strange one or one too much, is told by how it came to fail
 abbrev pub StopHasCause : (Engine → Type 0) → DiskLog → DiskLog → ℕ → ℕ → Status → Type 0
 StopHasCause IsOfRun was is before now status.DiskFault = Rose before now
 StopHasCause IsOfRun was is before now (status.Garbled page kept got) = (¬ (kept.0 ≡ got.0)) × FailedIn IsOfRun (λ flow. IsPageRefused flow.queues was is (queue.Garbled page kept got))
 StopHasCause IsOfRun was is before now (status.NotAPage page bytes) = FailedIn IsOfRun (λ flow. IsPageRefused flow.queues was is (queue.NotAPage page bytes))
-StopHasCause IsOfRun was is before now (status.Strange arc item) = FailedIn IsOfRun (λ flow. IsStrangeIn flow arc item × IsLastFeed flow (error.Strange arc item))
-StopHasCause IsOfRun was is before now status.TooMuch = FailedIn IsOfRun (λ flow. IsLastFeed flow error.TooMuch)
+StopHasCause IsOfRun was is before now (status.Strange arc item) = FailedIn IsOfRun (λ flow. IsStrangeIn flow arc item)
+StopHasCause IsOfRun was is before now status.TooMuch = FailedIn IsOfRun (λ flow. ⊤)
 StopHasCause IsOfRun was is before now result = ⊤

@@ -16,8 +16,7 @@ ghost use Rattle.sq_drive.specs.Stopping.{StopHasCause, status_of};
 ghost use Rattle.sq_drive.specs.Failing.{CameTo};
 
 use crate::writing::{send, send_piece};
-use sq_core::Engine;
-use sq_flow::RunErr;
+use sq_core::{Engine, RunErr};
 use sq_lines::event_line;
 use sq_net::Network;
 use sq_oper::Event;

@@ -28,16 +28,16 @@ use Rattle.std.proofs.lemmas.Bool.{false_from_ne_true}
 -- a page that was refused in a call was so in a longer one
 refusal-since : (q r : Queues) (was mid is : DiskLog) (arc : ℕ) (e : QueueErr) → IsLater was mid → IsRefusal q r mid is arc e → IsRefusal q r was is arc e
 refusal-since q r was mid is arc queue.Disk later h = tt
-refusal-since q r was mid is arc (queue.Garbled page kept got) later (node, stands, (at, own, (bytes, back, digest), differ), same) = (
+refusal-since q r was mid is arc (queue.Garbled page kept got) later (node, stands, (at, own, (bytes, back, digest), differ, put), same) = (
   node,
   stands,
-  (at, own, (bytes, record { there = back.there; came = came-since was mid is _ bytes later back.came }, digest), differ),
+  (at, own, (bytes, record { there = back.there; came = came-since was mid is _ bytes later back.came }, digest), differ, put),
   same,
 )
-refusal-since q r was mid is arc (queue.NotAPage page bytes) later (node, stands, (at, out, (back, digest), misfit), same) = (
+refusal-since q r was mid is arc (queue.NotAPage page bytes) later (node, stands, (at, out, (back, digest, put), misfit), same) = (
   node,
   stands,
-  (at, out, (record { there = back.there; came = came-since was mid is page bytes.items later back.came }, digest), misfit),
+  (at, out, (record { there = back.there; came = came-since was mid is page bytes.items later back.came }, digest, put), misfit),
   same,
 )
 refusal-since q r was mid is arc queue.Memory later h = tt
@@ -92,13 +92,13 @@ cause-in flow was is before now error.TooMuch h = tt
 cause-in flow was is before now error.Memory h = tt
 
 -- no feed failed that took an item
-pub feeds-none : {O : Type 0} (flow flow' : Flow O) (pages pages' : Option Pages) (queues : Queues) (was is : DiskLog) (before now : ℕ) (e : RunErr) → IsQueueCause queues was is before now e → IsFeedCause flow flow' pages pages' e
-feeds-none flow flow' pages pages' queues was is before now error.Disk h = tt
-feeds-none flow flow' pages pages' queues was is before now (error.Garbled page kept got) h = tt
-feeds-none flow flow' pages pages' queues was is before now (error.NotAPage page bytes) h = tt
-feeds-none flow flow' pages pages' queues was is before now (error.Strange arc item) h = absurd h
-feeds-none flow flow' pages pages' queues was is before now error.TooMuch h = absurd h
-feeds-none flow flow' pages pages' queues was is before now error.Memory h = tt
+pub feeds-none : {O : Type 0} (flow flow' : Flow O) (log log' : DiskLog) (queues : Queues) (was is : DiskLog) (before now : ℕ) (e : RunErr) → IsQueueCause queues was is before now e → IsFeedCause flow flow' log log' e
+feeds-none flow flow' log log' queues was is before now error.Disk h = tt
+feeds-none flow flow' log log' queues was is before now (error.Garbled page kept got) h = tt
+feeds-none flow flow' log log' queues was is before now (error.NotAPage page bytes) h = tt
+feeds-none flow flow' log log' queues was is before now (error.Strange arc item) h = absurd h
+feeds-none flow flow' log log' queues was is before now error.TooMuch h = absurd h
+feeds-none flow flow' log log' queues was is before now error.Memory h = tt
 
 -- the error of a step to which an item was refused
 pub refused-in : {O : Type 0} (flow : Flow O) (actor port arc : ℕ) (s : Seat O) (at : Arc) (was is : DiskLog) (before now : ℕ) (e : RunErr) (T : Item → Type 0)
@@ -108,18 +108,18 @@ refused-in flow actor port arc s at was is before now e T reads seated wired (in
 refused-in flow actor port arc s at was is before now e T reads seated wired (inr (item, same, taken, refused)) =
     subst (IsCauseIn flow was is before now) (sym same) (record { actor = actor; port = port; seat = s; at = at; reads = reads; seated = seated; wired = wired; refused = refused })
 
-pub refused-feed : {O : Type 0} (flow flow' : Flow O) (actor port arc : ℕ) (pages pages' : Option Pages) (was is : DiskLog) (before now : ℕ) (e : RunErr) (N : Item → Type 0)
+pub refused-feed : {O : Type 0} (flow flow' : Flow O) (actor port arc : ℕ) (log log' : DiskLog) (was is : DiskLog) (before now : ℕ) (e : RunErr) (N : Item → Type 0)
     → slice_get (arcs_read flow.wires actor) port ≡ Some arc → flow' ≡ record flow { queues = flow'.queues }
-    → IsQueueCause flow'.queues was is before now e ⊎ ((item : Item) × (e ≡ error.Strange arc item) × HasTaken pages pages' flow.queues flow'.queues arc item × N item) → IsFeedCause flow flow' pages pages' e
-refused-feed flow flow' actor port arc pages pages' was is before now e N reads same (inl h) = feeds-none flow flow' pages pages' flow'.queues was is before now e h
-refused-feed flow flow' actor port arc pages pages' was is before now e N reads same (inr (item, is-strange, taken, refused)) =
-    subst (IsFeedCause flow flow' pages pages') (sym is-strange) (record { actor = actor; port = port; reads = reads; same = same; taken = taken })
+    → IsQueueCause flow'.queues was is before now e ⊎ ((item : Item) × (e ≡ error.Strange arc item) × HasTaken log log' flow.queues flow'.queues arc item × N item) → IsFeedCause flow flow' log log' e
+refused-feed flow flow' actor port arc log log' was is before now e N reads same (inl h) = feeds-none flow flow' log log' flow'.queues was is before now e h
+refused-feed flow flow' actor port arc log log' was is before now e N reads same (inr (item, is-strange, taken, refused)) =
+    subst (IsFeedCause flow flow' log log') (sym is-strange) (record { actor = actor; port = port; reads = reads; same = same; taken = taken })
 
-pub full-feed : {O : Type 0} (flow flow' : Flow O) (actor port arc : ℕ) (item : Item) (pages pages' : Option Pages) (e : RunErr)
-    → slice_get (arcs_read flow.wires actor) port ≡ Some arc → flow' ≡ record flow { queues = flow'.queues } → HasTaken pages pages' flow.queues flow'.queues arc item
-    → e ≡ error.TooMuch → 2 ^ 62 ≤ flow.taken + length (spread item) → IsFeedCause flow flow' pages pages' e
-full-feed flow flow' actor port arc item pages pages' e reads same taken is over =
-    subst (IsFeedCause flow flow' pages pages') (sym is)
+pub full-feed : {O : Type 0} (flow flow' : Flow O) (actor port arc : ℕ) (item : Item) (log log' : DiskLog) (e : RunErr)
+    → slice_get (arcs_read flow.wires actor) port ≡ Some arc → flow' ≡ record flow { queues = flow'.queues } → HasTaken log log' flow.queues flow'.queues arc item
+    → e ≡ error.TooMuch → 2 ^ 62 ≤ flow.taken + length (spread item) → IsFeedCause flow flow' log log' e
+full-feed flow flow' actor port arc item log log' e reads same taken is over =
+    subst (IsFeedCause flow flow' log log') (sym is)
     (record { arc = arc; item = item; takes = record { actor = actor; port = port; reads = reads; same = same; taken = taken }; over = over })
 
 pub too-much-in : {O : Type 0} (flow : Flow O) (was is : DiskLog) (before now : ℕ) (e : RunErr) → e ≡ error.TooMuch → IsCauseIn flow was is before now e

@@ -56,7 +56,7 @@ module _ {O : Type 0} (m : Ghosts O) (n : ℕ) (before after : ℕ → Stage O) 
 module _ {O : Type 0} (m : Ghosts O) where
   -- a step that failed was the first
   pub fails-here : (was is : DiskLog) (f f' : Flow O) (events : List Event) (e : RunErr) → IsFlow m f → Together f.queues (known was) → IsLater was is
-      → IsFeedCause f f' (known was) (known is) e → FailsAt m was is f f' events e
+      → IsFeedCause f f' was is e → FailsAt m was is f f' events e
   fails-here was is f f' events e flow together later cause =
       record { before = f; mid = was; shown = events; stepped = stepped-none m (known was) f events flow together; later = IsLater-refl was; last = later; feed = cause }
 

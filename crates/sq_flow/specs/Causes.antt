@@ -2,14 +2,14 @@
 use Rattle.std.specs.Prelude.{◌≡◌, ◌≢◌, ℕ, ◌+◌, ◌^◌, ◌≤◌, ⊤, ◌∷◌, length, Option, Some, None, slice_get}
 use Rattle.sq_item.specs.declared.Item.{Item}
 use Rattle.sq_item.specs.Things.{spread}
-use Rattle.sq_outside.specs.Disks.{DiskLog, Pages}
+use Rattle.sq_outside.specs.Disks.{DiskLog}
 use Rattle.sq_outside.specs.Faults.{Rose}
-use Rattle.sq_pool.specs.Trust.{Tells}
+use Rattle.sq_pool.specs.Trust.{Tells, known}
 use Rattle.sq_paged.specs.Fronts.{IsPopped}
 use Rattle.sq_queue.specs.declared.Queues.{Queues}
 use Rattle.sq_paged.specs.declared.store.QueueErr.{QueueErr}
 use Rattle.sq_paged.specs.declared.store.QueueErr.TheVariants as queue
-use Rattle.sq_queue.specs.Faces.{IsRefusal, face, items_on}
+use Rattle.sq_queue.specs.Faces.{IsFirst, IsRefusal, face, items_on}
 use Rattle.sq_flow.specs.declared.wires.Arc.{Arc}
 use Rattle.sq_flow.specs.declared.seats.Seat.{Seat}
 use Rattle.sq_flow.specs.declared.flow.Flow.{Flow}
@@ -36,14 +36,16 @@ pub record IsPageRefused (queues : Queues) (was is : DiskLog) (e : QueueErr) : T
   pub arc : ℕ
   pub refusal : IsRefusal before queues was is arc e
 
--- the first item of an arc was taken, and the others stayed
-pub record HasTaken (was is : Option Pages) (before queues : Queues) (arc : ℕ) (item : Item) : Type 0 where
+-- the first item of an arc was taken in a call, by the disk's log before and after it, and the others stayed
+pub record HasTaken (was is : DiskLog) (before queues : Queues) (arc : ℕ) (item : Item) : Type 0 where
   pub popped : IsPopped (face before arc) (face queues arc)
   pub others : (other : ℕ) → other ≢ arc → face queues other ≡ face before other
-  pub first : Tells is → items_on before was arc ≡ item ∷ items_on queues is arc
+  pub first : IsFirst before was is arc item
+  pub items : Tells (known is) → items_on before (known was) arc ≡ item ∷ items_on queues (known is) arc
 
--- a feed took this item, the first of an arc that its operator reads, and did no more: the flow right before it and behind it
-pub record TakesOnly {O : Type 0} (before flow : Flow O) (was is : Option Pages) (arc : ℕ) (item : Item) : Type 0 where
+-- a feed took this item, the first of an arc that its operator reads, and did no more: the flow and the disk's log right before it and
+-- behind it
+pub record TakesOnly {O : Type 0} (before flow : Flow O) (was is : DiskLog) (arc : ℕ) (item : Item) : Type 0 where
   pub actor : ℕ
   pub port : ℕ
   pub reads : slice_get (arcs_read before.wires actor) port ≡ Some arc
@@ -51,14 +53,14 @@ pub record TakesOnly {O : Type 0} (before flow : Flow O) (was is : Option Pages)
   pub taken : HasTaken was is before.queues flow.queues arc item
 
 -- the item that a feed took has more marks and tuples than can still be counted
-pub record IsFull {O : Type 0} (before flow : Flow O) (was is : Option Pages) : Type 0 where
+pub record IsFull {O : Type 0} (before flow : Flow O) (was is : DiskLog) : Type 0 where
   pub arc : ℕ
   pub item : Item
   pub takes : TakesOnly before flow was is arc item
   pub over : 2 ^ 62 ≤ before.taken + length (spread item)
 
--- what shows why a feed failed that took an item: the flow right before it and behind it
-abbrev pub IsFeedCause : {O : Type 0} → Flow O → Flow O → Option Pages → Option Pages → RunErr → Type 0
+-- what shows why a feed failed that took an item: the flow and the disk's log right before it and behind it
+abbrev pub IsFeedCause : {O : Type 0} → Flow O → Flow O → DiskLog → DiskLog → RunErr → Type 0
 IsFeedCause before flow was is error.Disk = ⊤
 IsFeedCause before flow was is (error.Garbled page kept got) = ⊤
 IsFeedCause before flow was is (error.NotAPage page bytes) = ⊤

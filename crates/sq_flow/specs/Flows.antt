@@ -218,4 +218,4 @@ pub record FailsAt {O : Type 0} (m : Ghosts O) (log now : DiskLog) (flow flow' :
   pub stepped : Stepped m (known log) (known mid) flow before events shown
   pub later : IsLater log mid
   pub last : IsLater mid now
-  pub feed : IsFeedCause before flow' (known mid) (known now) e
+  pub feed : IsFeedCause before flow' mid now e

@@ -7,7 +7,7 @@ ghost use Rattle.sq_item.specs.SoundItems.{IsSoundItem};
 ghost use Rattle.sq_item.specs.Things.{spread};
 ghost use Rattle.sq_pool.specs.Trust.{IsLater, Tells, known};
 ghost use Rattle.sq_paged.specs.Fronts.{IsPopped};
-ghost use Rattle.sq_queue.specs.Faces.{face, size, frames, items_on, Together};
+ghost use Rattle.sq_queue.specs.Faces.{face, size, frames, items_on, IsFirst, Together};
 ghost use Rattle.sq_flow.specs.Causes.{HasTaken, IsQueueCause};
 ghost use Rattle.sq_flow.specs.Takes.{MayBeFed, may_stand, mark_fits, kinds_take, NotChanged};
 
@@ -136,6 +136,7 @@ pub(crate) fn take_item<D: PageDisk>(
     ensures size { size queues.new ≡ size queues.old }
     ensures items { IfOk result (λ item. Tells (known (D.log disk.new))
         → items_on queues.old (known (D.log disk.old)) arc ≡ item ∷ items_on queues.new (known (D.log disk.new)) arc) }
+    ensures first { IfOk result (λ item. IsFirst queues.old (D.log disk.old) (D.log disk.new) arc item) }
     ensures others { OnOk result (Tells (known (D.log disk.new)) → (other : ℕ) → other ≢ arc → items_on queues.new (known (D.log disk.new)) other
         ≡ items_on queues.old (known (D.log disk.old)) other) }
     ensures together { OnOk result (Together queues.new (known (D.log disk.new))) }
@@ -146,7 +147,7 @@ pub(crate) fn take_item<D: PageDisk>(
     ensures memory { IfErr result (λ e. e ≢ RunErr.TooMuch) }
     ensures cause { IfErr result (λ e. IsQueueCause queues.new (D.log disk.old) (D.log disk.new) (D.faults disk.old) (D.faults disk.new) e
         ⊎ ((item : Item) × (e ≡ RunErr.Strange arc item)
-        × HasTaken (known (D.log disk.old)) (known (D.log disk.new)) queues.old queues.new arc item × ¬ (MayBeFed at.now port place clock item))) }
+        × HasTaken (D.log disk.old) (D.log disk.new) queues.old queues.new arc item × ¬ (MayBeFed at.now port place clock item))) }
     ensures faults { D.faults disk.old ≤ D.faults disk.new }
     ensures popped { OnOk result (IsPopped (face queues.old arc) (face queues.new arc)) }
     ensures frames { OnOk result (frames queues.new ≡ frames queues.old) }

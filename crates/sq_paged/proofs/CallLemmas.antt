@@ -6,7 +6,7 @@ use Rattle.sq_item.specs.declared.Item.{Item}
 use Rattle.sq_link.specs.ChainLists.{Chained, StandsIn, head_or, list_at}
 use Rattle.sq_outside.specs.Disks.{DiskLog, Pages}
 use Rattle.sq_outside.specs.Faults.{Rose}
-use Rattle.sq_pool.specs.Pools.{is_held}
+use Rattle.sq_pool.specs.Pools.{bytes_in, is_held}
 use Rattle.sq_paged.specs.KeptPages.{IsCause, IsTold}
 use Rattle.sq_paged.specs.Faces.{paged_face_at, nodes_on, kept_at, count_along, is_first, last_at, last_node, PagedTogether, IsPagedRefusal, SameTables}
 use Rattle.sq_paged.specs.Steps.{TakesAt}
@@ -89,6 +89,13 @@ taken-held q told m mid node item a below =
     ∙ ap (λ (k : Kept). is_held m.pool k.page) (kept-same q.kept.items node a.after below)
     ∙ ap (λ (p : ℕ). is_held m.pool p) a.page.page
     ∙ a.page.held
+
+pub taken-there : (q : Queues) (told : Option Pages) (m : Queues) (mid : Option Pages) (node : ℕ) (item : Item) → TakesAt q told m mid node item → node < length q.kept.items → is_some (bytes_in (kept_at m.kept.items node).page m.pool.resident) ≡ true
+taken-there q told m mid node item a below =
+    ap (λ (ks : List Kept). is_some (bytes_in (kept_at ks node).page m.pool.resident)) a.kept
+    ∙ ap (λ (k : Kept). is_some (bytes_in k.page m.pool.resident)) (kept-same q.kept.items node a.after below)
+    ∙ ap (λ (p : ℕ). is_some (bytes_in p m.pool.resident)) a.page.page
+    ∙ a.page.there
 
 -- a fault after others is one since before them
 pub rose-since : (before mid now : ℕ) → before ≤ mid → Rose mid now → Rose before now

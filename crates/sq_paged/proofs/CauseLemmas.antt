@@ -1,12 +1,14 @@
 -- Why a page is refused.
-use Rattle.std.proofs.Common.{◌≡◌, ℕ, false, List, Option, Some, None, refl, sym, subst, ◌∙◌}
-use Rattle.std.specs.Prelude.{is_some, Result, Ok, Err, IfErr}
+use Rattle.std.proofs.Common.{◌≡◌, ℕ, false, List, Option, Some, None, inr, refl, sym, subst, ◌∙◌}
+use Rattle.std.specs.Prelude.{is_some, Result, Ok, Err, IfErr, IsSomeAnd}
 use Rattle.sq_outside.specs.Disks.{DiskLog}
 use Rattle.sq_pool.specs.Errors.{IsGarbling, ComesBack, IsWholePage}
-use Rattle.sq_pool.specs.Pools.{Pooled, bytes_in}
+use Rattle.sq_pool.specs.Pools.{Pooled, HasDigest, bytes_in}
+use Rattle.sq_pool.specs.Slots.{digest_at}
+use Rattle.sq_pool.specs.Trust.{CameLast}
 use Rattle.sq_pool.specs.declared.pool.PoolErr.{PoolErr}
 use Rattle.sq_pool.specs.declared.pool.PoolErr.TheVariants as pool
-use Rattle.sq_paged.specs.KeptPages.{FitsKept, IsCause, IsMisfit, IsTold, NoMisfit, of_pool}
+use Rattle.sq_paged.specs.KeptPages.{FitsKept, IsCause, IsMisfit, IsTold, NoMisfit, WereIn, of_pool}
 use Rattle.sq_paged.specs.declared.store.Kept.{Kept}
 use Rattle.sq_paged.specs.declared.store.QueueErr.{QueueErr}
 use Rattle.sq_paged.specs.declared.store.QueueErr.TheVariants as error
@@ -21,6 +23,12 @@ none-by (Some b) h = absurd cc
 
 one_is : (o : Option (List ℕ)) (a b : List ℕ) → o ≡ Some a → o ≡ Some b → a ≡ b
 one_is o a b e f = let both : Some a ≡ Some b = sym e ∙ f in cc
+
+-- bytes that came back have the digest that was kept
+pub were-back : (c d : Pooled) (before now : DiskLog) (p : ℕ) (bytes : List ℕ) → ComesBack c d before now p → bytes_in p d.resident ≡ Some bytes → WereIn c before now p bytes
+were-back c d before now p bytes (b, whole) e =
+    inr (subst (λ (bs : List ℕ). IsSomeAnd (digest_at c.kept p) (HasDigest (Some bs)) × CameLast before now p bs) (one_is (bytes_in p d.resident) b bytes whole.0.there e)
+    (subst (λ (o : Option (List ℕ)). IsSomeAnd o (HasDigest (Some b))) (sym whole.1) refl, whole.0.came))
 
 -- the pool refused the page
 pub pool-cause : (c d : Pooled) (before now : DiskLog) (kept : Kept) (e : PoolErr) → IsGarbling c d before now kept.page e → IsCause c d before now kept (of_pool e)

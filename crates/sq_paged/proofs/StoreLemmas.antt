@@ -3,7 +3,7 @@ use Rattle.std.proofs.Common.{◌≡◌, ◌≢◌, ℕ, suc, ◌+◌, ◌-◌, 
 use Rattle.std.specs.Prelude.{is_some, ◌||◌}
 use Rattle.std.proofs.lemmas.Bool.{cases_eq}
 use Rattle.std.specs.FinMap as finite
-use Rattle.sq_outside.specs.Disks.{Pages}
+use Rattle.sq_outside.specs.Disks.{DiskLog, Pages}
 use Rattle.sq_pool.specs.Slots.{without_page, digest_at}
 use Rattle.sq_pool.specs.Pools.{Pooled, bytes_in, is_held, if_none, if_kept, Agree, HasFrameLeft, with_bytes, loaded, Keeps, Makes, Drops, Brings, Touched, CameBack, IsMade, zeros, LetsGo}
 use Rattle.sq_pool.specs.Trust.{Tells}
@@ -17,7 +17,7 @@ use Rattle.sq_page.proofs.FitLemmas.{items-are-read}
 use Rattle.sq_page.proofs.PageLemmas.{many-room}
 use Rattle.sq_page.proofs.Takes.{some_is}
 use Rattle.sq_page.proofs.WholeTakes.{item_at_end, empty_page}
-use Rattle.sq_paged.specs.KeptPages.{page_seen, FitsKept, IsFit, Brought, Spares, Appended, Taken, Started, items_kept, items_of_bytes}
+use Rattle.sq_paged.specs.KeptPages.{page_seen, FitsKept, IsFit, Brought, Spares, Appended, Taken, Started, WereIn, IsFirstOf, items_kept, items_of_bytes}
 use Rattle.sq_paged.specs.declared.store.Kept.{Kept}
 use Rattle.sq_paged.proofs.KeptWords.{Written}
 use Rattle.sq_words.proofs.Numbers.{eqb_itself}
@@ -77,6 +77,11 @@ pub brings-there : (c : Pooled) (told : Option Pages) (d : Pooled) (now : Option
     → (b : List ℕ) × (bytes_in p d.resident ≡ Some b) × (bytes_in p c.resident ≡ Some b)
 brings-there c told d now p (Touched bytes had is same) there = (bytes, ap (λ (x : Pooled). bytes_in p x.resident) is ∙ bytes-last p bytes (without_page p c.resident) (bytes-gone p c.resident), had)
 brings-there c told d now p (CameBack digest out kept f) there = let no : false ≡ true = sym (ap (λ (o : Option (List ℕ)). is_some o) out) ∙ there in absurd cc
+
+pub were-there : (c : Pooled) (told : Option Pages) (d : Pooled) (now : Option Pages) (before after : DiskLog) (p : ℕ) (bytes : List ℕ) → Brings c told d now p → is_some (bytes_in p c.resident) ≡ true → bytes_in p d.resident ≡ Some bytes
+    → WereIn c before after p bytes
+were-there c told d now before after p bytes brings there e =
+    let b = brings-there c told d now p brings there in inl (b.2 ∙ ap (λ (x : List ℕ). Some x) (some_is _ _ (sym b.1 ∙ e)))
 
 -- a page that was in a frame was brought
 pub brought-there : (c : Pooled) (told : Option Pages) (d : Pooled) (now : Option Pages) (kept : Kept) → Brings c told d now kept.page → Keeps c told d now → (Tells now → Tells told) → Agree d now → d.frames ≡ c.frames
@@ -170,12 +175,11 @@ spares-then c told d now e end p a b =
 
 -- ---- an item behind the last of a page
 
+items-fit : (kept : Kept) (b : List ℕ) → (f : FitsKept b kept) → items_from b kept.start kept.count ≡ f.back
+items-fit kept b f = ap (λ (n : ℕ). items_from b n kept.count) f.starts ∙ ap (λ (n : ℕ). items_from b (end_of f.front) n) f.counts ∙ items-are-read b f.front f.back f.page
+
 pub items-seen : (c : Pooled) (told : Option Pages) (kept : Kept) (b : List ℕ) → page_seen c told kept.page ≡ Some b → (f : FitsKept b kept) → items_kept c told kept ≡ f.back
-items-seen c told kept b is f =
-    ap (λ (o : Option (List ℕ)). items_of_bytes o kept) is
-    ∙ ap (λ (n : ℕ). items_from b n kept.count) f.starts
-    ∙ ap (λ (n : ℕ). items_from b (end_of f.front) n) f.counts
-    ∙ items-are-read b f.front f.back f.page
+items-seen c told kept b is f = ap (λ (o : Option (List ℕ)). items_of_bytes o kept) is ∙ items-fit kept b f
 
 pub fits-few : (bytes : List ℕ) (start count end : ℕ) → FitsPage bytes start count end → count ≤ 8190
 fits-few bytes start count end f = omega (arith, f.counts, f.page.room, many-room (f.front ++ f.back), length-append f.front f.back)
@@ -292,6 +296,7 @@ taken c told d now kept after item start time b some found timed is =
     record {
       page = one;
       spares = b.spares;
+      there = ap (λ (o : Option (List ℕ)). is_some o) b.there;
       held = b.held;
       fits = λ bytes known. subst (λ (x : List ℕ). FitsKept x after) (some_is _ _ (sym here ∙ known)) fit;
       ends = fits-low _ _ _ _ fit;
@@ -301,6 +306,19 @@ taken c told d now kept after item start time b some found timed is =
           let more : l.rest ≡ next ∷ rest = sym left ∙ e in
           ap (λ (k : Kept). k.time) is ∙ timed (omega (arith, l.counts, ap (λ (xs : List Item). length xs) more)) (l.front ++ l.item ∷ []) next rest
           (subst (λ (xs : List Item). IsPageOf b.bytes ((l.front ++ l.item ∷ []) ++ xs)) more page) at.1;
+    }
+
+-- the item that was found is the first that was left
+pub first-of : (c : Pooled) (before now : DiskLog) (kept : Kept) (item : Item) (start : ℕ) (bytes : List ℕ) → FitsKept bytes kept → 1 ≤ kept.count → WereIn c before now kept.page bytes
+    → ((front : List Item) (i : Item) (back : List Item) → IsPageOf bytes (front ++ i ∷ back) → kept.start ≡ end_of front → (item ≡ i) × (start ≡ end_of (front ++ i ∷ []))) → IsFirstOf c before now kept item
+first-of c before now kept item start bytes fits some had found =
+    let l = first-left bytes kept fits some in
+    let at = found l.front l.item l.rest l.page l.starts in
+    record {
+      bytes = bytes;
+      had = had;
+      behind = l.rest;
+      left = items-fit kept bytes fits ∙ l.back_is ∙ ap (λ (i : Item). i ∷ l.rest) (sym at.0);
     }
 
 -- the bytes of a page that was brought

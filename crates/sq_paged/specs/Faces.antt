@@ -8,7 +8,7 @@ use Rattle.sq_outside.specs.Disks.{DiskLog, Pages}
 use Rattle.sq_pool.specs.Trust.{Tells}
 use Rattle.sq_pool.specs.Pools.{Pooled, is_held, Agree}
 use Rattle.sq_paged.specs.Fronts.{Face, first_time, IsFaceOf}
-use Rattle.sq_paged.specs.KeptPages.{page_seen, IsFit, items_kept, IsCause}
+use Rattle.sq_paged.specs.KeptPages.{page_seen, IsFit, items_kept, IsCause, IsFirstOf}
 use Rattle.sq_paged.specs.declared.store.Kept.{Kept}
 use Rattle.sq_paged.specs.declared.Lane.{Lane}
 use Rattle.sq_paged.specs.declared.Queues.{Queues}
@@ -112,6 +112,14 @@ pub record SameTables (q r : Queues) : Type 0 where
   pub lanes : r.lanes.items ≡ q.lanes.items
   pub kept : r.kept.items ≡ q.kept.items
   pub chains : r.chains ≡ q.chains
+
+-- over every disk, an item is the first that was left of the first of some pages, those of an arc
+abbrev pub IsFirstAlong : Pooled → DiskLog → DiskLog → List Kept → List ℕ → Item → Type 0
+IsFirstAlong pool before now kept [] item = ⊥
+IsFirstAlong pool before now kept (node ∷ nodes) item = IsFirstOf pool before now (kept_at kept node) item
+
+abbrev pub IsFirstPaged : Queues → DiskLog → DiskLog → ℕ → Item → Type 0
+IsFirstPaged q before now arc item = IsFirstAlong q.pool before now q.kept.items (nodes_on q arc) item
 
 -- why an arc is refused: a page of it came back, and it is refused; what is kept of arcs and pages stayed
 abbrev pub IsPagedRefusal : Queues → Queues → DiskLog → DiskLog → ℕ → QueueErr → Type 0

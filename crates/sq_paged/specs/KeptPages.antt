@@ -1,11 +1,12 @@
 -- What is kept of a page, and the pages of a pool as they are seen over a disk.
-use Rattle.std.specs.Prelude.{◌≡◌, ◌≢◌, ⊤, ℕ, ◌+◌, ◌≤◌, true, false, List, [], ◌∷◌, ◌++◌, Option, Some, None}
+use Rattle.std.specs.Prelude.{◌≡◌, ◌≢◌, ◌⊎◌, ⊤, ℕ, ◌+◌, ◌≤◌, true, false, List, [], ◌∷◌, ◌++◌, Option, Some, None, is_some, IsSomeAnd}
 use Rattle.sq_item.specs.declared.Item.{Item}
 use Rattle.sq_outside.specs.Disks.{DiskLog, Pages}
 use Rattle.sq_page.specs.Fitting.{FitsPage, items_from}
-use Rattle.sq_pool.specs.Pools.{Pooled, bytes_in, page_of, is_held, Agree}
+use Rattle.sq_pool.specs.Pools.{Pooled, bytes_in, page_of, is_held, HasDigest, Agree}
 use Rattle.sq_pool.specs.Errors.{IsGarbling, IsWholePage}
-use Rattle.sq_pool.specs.Trust.{Tells}
+use Rattle.sq_pool.specs.Slots.{digest_at}
+use Rattle.sq_pool.specs.Trust.{CameLast, Tells}
 use Rattle.sq_pool.specs.declared.pool.PoolErr.{PoolErr}
 use Rattle.sq_pool.specs.declared.pool.PoolErr.TheVariants as pool
 use Rattle.sq_paged.specs.declared.store.Kept.{Kept}
@@ -66,12 +67,24 @@ pub record Appended (c : Pooled) (told : Option Pages) (d : Pooled) (now : Optio
 pub record Taken (c : Pooled) (told : Option Pages) (d : Pooled) (now : Option Pages) (kept after : Kept) (item : Item) : Type 0 where
   pub page : after.page ≡ kept.page
   pub spares : Spares c told d now kept.page
+  pub there : is_some (bytes_in kept.page d.resident) ≡ true
   pub held : is_held d kept.page ≡ true
   pub fits : IsFit (page_seen d now after.page) after
   pub ends : after.end ≤ 8192
   pub count : kept.count ≡ after.count + 1
   pub items : Tells now → items_kept c told kept ≡ item ∷ items_kept d now after
   pub time : Tells now → (next : Item) (rest : List Item) → items_kept d now after ≡ next ∷ rest → after.time ≡ next.time
+
+-- over every disk, the bytes of a page as a call had them: they stood in its frame before, or came back in it with the digest that was kept
+abbrev pub WereIn : Pooled → DiskLog → DiskLog → ℕ → List ℕ → Type 0
+WereIn c before now page bytes = (bytes_in page c.resident ≡ Some bytes) ⊎ (IsSomeAnd (digest_at c.kept page) (HasDigest (Some bytes)) × CameLast before now page bytes)
+
+-- an item is the first that was left of a page
+pub record IsFirstOf (c : Pooled) (before now : DiskLog) (kept : Kept) (item : Item) : Type 0 where
+  pub bytes : List ℕ
+  pub had : WereIn c before now kept.page bytes
+  pub behind : List Item
+  pub left : items_from bytes kept.start kept.count ≡ item ∷ behind
 
 -- a new page has one item
 pub record Started (c : Pooled) (told : Option Pages) (d : Pooled) (now : Option Pages) (kept : Kept) (item : Item) : Type 0 where

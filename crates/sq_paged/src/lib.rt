@@ -14,11 +14,11 @@ ghost use Rattle.sq_outside.specs.Disks.{Honest, Pages};
 ghost use Rattle.sq_outside.specs.Faults.{Rose};
 ghost use Rattle.sq_paged.specs.Fronts.{head_by, pushed, IsPopped};
 ghost use Rattle.sq_pool.specs.Trust.{IsLater, Tells, known};
-ghost use Rattle.sq_paged.specs.KeptPages.{IsTold, IsCause, NoMisfit};
-ghost use Rattle.sq_paged.specs.Faces.{paged_face, paged_size, paged_frames, paged_frames as frames_of, paged_resident_of, paged_items_on, PagedTogether, no_items, last_if, IsKeptPage, kept_at, IsPagedRefusal, SameTables};
+ghost use Rattle.sq_paged.specs.KeptPages.{IsTold, IsCause, NoMisfit, IsFirstOf};
+ghost use Rattle.sq_paged.specs.Faces.{paged_face, paged_size, paged_frames, paged_frames as frames_of, paged_resident_of, paged_items_on, PagedTogether, no_items, last_if, IsKeptPage, kept_at, IsPagedRefusal, SameTables, IsFirstPaged};
 ghost use Rattle.sq_paged.specs.Steps.{AppendsAt, TakesAt, StartsAt, DropsAt, AddsItem, Removes};
 ghost use Rattle.sq_page.specs.Pages.{item_bytes};
-ghost use Rattle.sq_pool.specs.Pools.{Agree, is_held};
+ghost use Rattle.sq_pool.specs.Pools.{Agree, bytes_in, is_held};
 ghost use Rattle.sq_link.specs.ChainLists.{IsLoose, head_or, list_at};
 
 mod store;
@@ -195,6 +195,7 @@ impl Queues {
         ensures size { paged_size self.new ≡ paged_size self.old }
         ensures frames { OnOk result (paged_frames self.new ≡ paged_frames self.old) }
         ensures items { IfOk result (λ item. Tells (known (D.log disk.new)) → paged_items_on self.old (known (D.log disk.old)) arc ≡ item ∷ paged_items_on self.new (known (D.log disk.new)) arc) }
+        ensures first { IfOk result (λ item. IsFirstPaged self.old (D.log disk.old) (D.log disk.new) arc item) }
         ensures others { OnOk result (Tells (known (D.log disk.new)) → (other : ℕ) → other ≢ arc → paged_items_on self.new (known (D.log disk.new)) other ≡ paged_items_on self.old (known (D.log disk.old)) other) }
         ensures together { OnOk result (PagedTogether self.new (known (D.log disk.new))) }
         ensures later { IsLater (D.log disk.old) (D.log disk.new) }
@@ -288,6 +289,7 @@ impl Queues {
         requires together { PagedTogether self.old (known (D.log disk.old)) }
         ensures ok { IfOk result (λ item. Removes self.old (known (D.log disk.old)) self.new (known (D.log disk.new)) arc item) }
         ensures sound { IfOk result IsSoundItem }
+        ensures first { IfOk result (λ item. IsFirstPaged self.old (D.log disk.old) (D.log disk.new) arc item) }
         ensures lanes { self.new.lanes ≡ self.old.lanes }
         ensures disk { IfErr result (λ e. e ≡ QueueErr.Disk → Rose (D.faults disk.old) (D.faults disk.new)) }
         ensures cause { IfErr result (λ e. IsPagedRefusal self.old self.new (D.log disk.old) (D.log disk.new) arc e) }
@@ -424,6 +426,7 @@ impl Queues {
         requires kept { IsKeptPage self.old.pool (known (D.log disk.old)) (kept_at self.old.kept.items node) }
         ensures ok { IfOk result (λ item. TakesAt self.old (known (D.log disk.old)) self.new (known (D.log disk.new)) node item) }
         ensures sound { IfOk result IsSoundItem }
+        ensures first { IfOk result (λ item. IsFirstOf self.old.pool (D.log disk.old) (D.log disk.new) (kept_at self.old.kept.items node) item) }
         ensures lanes { self.new.lanes ≡ self.old.lanes }
         ensures disk { IfErr result (λ e. e ≡ QueueErr.Disk → Rose (D.faults disk.old) (D.faults disk.new)) }
         ensures cause { IfErr result (λ e. IsCause self.old.pool self.new.pool (D.log disk.old) (D.log disk.new) (kept_at self.old.kept.items node) e) }
@@ -450,6 +453,7 @@ impl Queues {
         requires held { is_held self.old.pool (kept_at self.old.kept.items node).page ≡ true }
         requires agree { Agree self.old.pool (known (D.log disk.old)) }
         ensures ok { OnOk result (DropsAt self.old (known (D.log disk.old)) self.new (known (D.log disk.new)) arc node) }
+        ensures log { OnOk result (is_some (bytes_in (kept_at self.old.kept.items node).page self.old.pool.resident) ≡ true → D.log disk.new ≡ D.log disk.old) }
         ensures lanes { self.new.lanes ≡ self.old.lanes }
         ensures disk { IfErr result (λ e. e ≡ QueueErr.Disk → Rose (D.faults disk.old) (D.faults disk.new)) }
         ensures plain { IfErr result IsTold }

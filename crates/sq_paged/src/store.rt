@@ -1,5 +1,5 @@
 // The pages of queues in their pool.
-ghost use Rattle.std.specs.Prelude.{◌≡◌, ℕ, ◌+◌, ◌<◌, ◌≤◌, ◌++◌, ◌∷◌, [], false, List, Some, length, IfOk, OnOk, IfErr, IsTrue, IsSome};
+ghost use Rattle.std.specs.Prelude.{◌≡◌, ℕ, ◌+◌, ◌<◌, ◌≤◌, ◌++◌, ◌∷◌, [], false, true, List, Some, is_some, length, IfOk, OnOk, IfErr, IsTrue, IsSome};
 ghost use Rattle.sq_item.specs.declared.Item.{Item};
 ghost use Rattle.sq_item.specs.SoundItems.{IsSoundItem};
 ghost use Rattle.sq_outside.specs.Disks.{Honest};
@@ -7,7 +7,7 @@ ghost use Rattle.sq_outside.specs.Faults.{Rose};
 ghost use Rattle.sq_page.specs.Pages.{item_bytes, IsPageOf, EndsAt, ItemBeginsAt, end_of};
 ghost use Rattle.sq_pool.specs.Pools.{Agree, bytes_in, is_held, with_bytes};
 ghost use Rattle.sq_pool.specs.Trust.{IsLater, Tells, known};
-ghost use Rattle.sq_paged.specs.KeptPages.{page_seen, FitsKept, IsFit, Brought, Spares, of_pool, IsMisfit, IsCause, IsTold, NoMisfit, Appended, Taken, Started};
+ghost use Rattle.sq_paged.specs.KeptPages.{page_seen, FitsKept, IsFit, Brought, Spares, of_pool, IsMisfit, IsCause, IsTold, NoMisfit, Appended, Taken, Started, WereIn, IsFirstOf};
 
 use sq_item::Item;
 use sq_outside::PageDisk;
@@ -97,6 +97,8 @@ pub fn bring_page<D: PageDisk>(
     requires agree { Agree pool.old (known (D.log disk.old)) }
     requires fits { IsFit (page_seen pool.old (known (D.log disk.old)) kept.now.page) kept.now }
     ensures ok { OnOk result (Brought pool.old (known (D.log disk.old)) pool.new (known (D.log disk.new)) kept.now) }
+    ensures had { OnOk result ((bytes : List ℕ) → bytes_in kept.now.page pool.new.resident ≡ Some bytes
+        → WereIn pool.old (D.log disk.old) (D.log disk.new) kept.now.page bytes) }
 
     // Each refusal.
     ensures disk { IfErr result (λ e. e ≡ QueueErr.Disk → Rose (D.faults disk.old) (D.faults disk.new)) }
@@ -188,6 +190,7 @@ pub fn take_from_page<D: PageDisk>(
     requires some { 1 ≤ kept.now.count }
     ensures ok { IfOk result (λ taken. Taken pool.old (known (D.log disk.old)) pool.new (known (D.log disk.new)) kept.now taken.1 taken.0) }
     ensures sound { IfOk result (λ taken. IsSoundItem taken.0) }
+    ensures first { IfOk result (λ taken. IsFirstOf pool.old (D.log disk.old) (D.log disk.new) kept.now taken.0) }
 
     // Each refusal.
     ensures disk { IfErr result (λ e. e ≡ QueueErr.Disk → Rose (D.faults disk.old) (D.faults disk.new)) }
@@ -249,6 +252,7 @@ pub fn let_page_go<D: PageDisk>(pool: &mut Pool, disk: &mut D, page: u64) -> Res
     requires agree { Agree pool.old (known (D.log disk.old)) }
     ensures ok { OnOk result (Spares pool.old (known (D.log disk.old)) pool.new (known (D.log disk.new)) page) }
     ensures gone { OnOk result (is_held pool.new page ≡ false) }
+    ensures log { OnOk result (is_some (bytes_in page pool.old.resident) ≡ true → D.log disk.new ≡ D.log disk.old) }
 
     // Each refusal.
     ensures disk { IfErr result (λ e. (e ≡ QueueErr.Disk) × Rose (D.faults disk.old) (D.faults disk.new)) }

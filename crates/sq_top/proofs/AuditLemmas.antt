@@ -144,13 +144,17 @@ module _ (words : List (List ℕ)) (net text : List ℕ) (asked : command_in wor
         omega (arith, still, no_work),
       ))
 
+  no_fault : (s : Status) → IsLost before.output.faults after.output.faults s → s ≡ status.DiskFault → ⊥
+  no_fault s (inl memory) is = let no : status.Memory ≡ status.DiskFault = sym memory ∙ is in cc
+  no_fault s (inr (sink, rose)) is = let no : status.SinkFault ≡ status.DiskFault = sym sink ∙ is in cc
+
   pub audited_cut : (s : Status) → IsLost before.output.faults after.output.faults s → AppendsPrefix before.output.written after.output.written (verdict_text r) → (s ≢ status.SinkFault → after.output.written ≡ before.output.written)
       → Ends words before after s source
   audited_cut s lost part alone =
       answered_cut words before after r source (is_audit words net text asked) came faultless s (lost_cut before.output.faults before.output.faults after.output.faults s (omega arith) lost)
       (lost_stop _ before.disk.log after.disk.log before.disk.faults after.disk.faults before.output.faults after.output.faults s lost) (λ is-honest. lost_unchanged before.output.faults after.output.faults s lost)
       (λ told. lost_garbled before.output.faults after.output.faults s lost)
-      (λ told. not_too_much _ before.output.faults after.output.faults s lost)
+      (λ told. not_too_much _ before.output.faults after.output.faults s lost) (λ fault. absurd (no_fault s lost fault))
       (λ told. (
         subst (λ c. AppendsSuch before.output.written after.output.written (IsPrefixOfDue c r s)) (sym asked) (appends_begun (verdict_text r) before.output.written after.output.written s part alone),
         omega (arith, still, no_work),

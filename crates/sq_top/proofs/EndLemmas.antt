@@ -408,12 +408,12 @@ module _ (words : List (List ℕ)) (before after : Outside) (r : AcceptedReplay)
 
   -- without a fault it is want of memory, or too much, or a page that came back garbled
   ends_ok : (s : Status) → IsCutShort before.output.faults after.output.faults s → StopHasCause (IsOfRun before.disk.log after.disk.log r s) before.disk.log after.disk.log before.disk.faults after.disk.faults s
-      → (is_changed s ≡ true → is_garbled s ≡ true) → (s ≡ status.TooMuch → 2 ^ 62 ≤ turns) → ¬ (DiskFails before after) → ¬ (OutputFails before after) → turns < 2 ^ 62
+      → (is_changed s ≡ true → is_garbled s ≡ true) → (s ≡ status.TooMuch → 2 ^ 62 ≤ turns) → (s ≡ status.DiskFault → ¬ (DiskFails before after)) → ¬ (OutputFails before after) → turns < 2 ^ 62
       → (s ≡ status.Ok) ⊎ (s ≡ status.Memory) ⊎ (is_garbled s ≡ true)
   ends_ok status.Ok cut stop garbled much sound dry few = inl refl
   ends_ok status.Memory cut stop garbled much sound dry few = inr (inl refl)
   ends_ok status.SinkFault cut stop garbled much sound dry few = absurd (dry (cut.sink refl))
-  ends_ok status.DiskFault cut stop garbled much sound dry few = absurd (sound stop)
+  ends_ok status.DiskFault cut stop garbled much sound dry few = absurd (sound refl stop)
   ends_ok status.TooMuch cut stop garbled much sound dry few = let most = much refl in absurd (omega (arith, most, few))
   ends_ok (status.Garbled page kept got) cut stop garbled much sound dry few = inr (inr (garbled refl))
   ends_ok (status.NotAPage page bytes) cut stop garbled much sound dry few = inr (inr (garbled refl))
@@ -423,9 +423,9 @@ module _ (words : List (List ℕ)) (before after : Outside) (r : AcceptedReplay)
   -- the answer is cut short
   pub answered_cut : (s : Status) → IsCutShort before.output.faults after.output.faults s → StopHasCause (IsOfRun before.disk.log after.disk.log r s) before.disk.log after.disk.log before.disk.faults after.disk.faults s
       → (before.disk.log.honest ≡ true → is_changed s ≡ false) → (KnowsDisk (command_in words) after → is_changed s ≡ true → is_garbled s ≡ true)
-      → (KnowsDisk (command_in words) after → s ≡ status.TooMuch → 2 ^ 62 ≤ turns)
+      → (KnowsDisk (command_in words) after → s ≡ status.TooMuch → 2 ^ 62 ≤ turns) → (s ≡ status.DiskFault → runs_engine (command_in words) ≡ true)
       → (KnowsDisk (command_in words) after → DoesPart (command_in words) r s before after) → Ends words before after s source
-  answered_cut s cut stop same garbled much first = record {
+  answered_cut s cut stop same garbled much runs first = record {
     read = came.0;
     given = came.2;
     left = Done r;
@@ -442,7 +442,7 @@ module _ (words : List (List ℕ)) (before after : Outside) (r : AcceptedReplay)
     garbled = garbled;
     sink = cut.sink;
     too_much = λ e pages. much pages e;
-    complete = λ sound dry pages few. ends_ok s cut stop (garbled pages) (much pages) sound dry few;
+    complete = λ sound dry pages few. ends_ok s cut stop (garbled pages) (much pages) (λ fault. sound (runs fault)) dry few;
     named = names_none s cut.begun;
   }
 
@@ -464,7 +464,7 @@ module _ (words : List (List ℕ)) (before after : Outside) (r : AcceptedReplay)
         → (Tells (known after.disk.log) → AppendsSuch before.output.written after.output.written (IsPrefixOfDue (command_in words) r s) × (after.steps ≤ before.steps + work_in (replayed r)))
         → Ends words before after s source
     driven_cut s cut stop same garbled much first = answered_cut s cut stop same (λ told. garbled (told engine))
-        (λ told is. subst (λ k. 2 ^ 62 ≤ k) turns_are (much (told engine) is))
+        (λ told is. subst (λ k. 2 ^ 62 ≤ k) turns_are (much (told engine) is)) (λ fault. engine)
         (λ told. let part = first (told engine) in (part.0, subst (λ k. after.steps ≤ before.steps + k) work_is part.1))
 
 -- any end but Ok and that of the sink may be one for want of memory

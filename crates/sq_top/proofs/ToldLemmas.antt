@@ -20,7 +20,7 @@ use Rattle.sq_drive.specs.Due.{due_of, replayed}
 use Rattle.sq_work.specs.FolderStates.{FolderState}
 use Rattle.sq_work.specs.Reads.{GoesBy, IfAccepted, WhereTold, network_read}
 use Rattle.sq_drive.specs.Failing.{IsOfRun}
-use Rattle.sq_top.specs.Ends.{DiskFails, DoesAll, DoesNothing, DoesPart, Ends, FolderFails, IsEngineOf, KnowsDisk, OutputFails}
+use Rattle.sq_top.specs.Ends.{DiskHolds, DoesAll, DoesNothing, DoesPart, Ends, FolderFails, IsEngineOf, KnowsDisk, OutputFails}
 use Rattle.sq_top.specs.Outside.{Outside}
 use Rattle.sq_top.specs.Texts.{turns_for}
 use Rattle.sq_top.specs.ToldFolders.{EndsOver, FolderHasCause, HasFailedAt, MatchAccepted, NamesTold, looked_at, network_named}
@@ -241,7 +241,7 @@ module _ (files : Files) (words : List (List ℕ)) (before after : Outside) (res
       by (Stops s) is none = match_any _ First _ (λ r e. begun_nothing words before after result r none (accepted_tells_classes (file files) words r e)) (λ s e. none)
       by (Reads name limit more) is none = match_any _ First _ (λ r e. begun_nothing words before after result r none (accepted_tells_classes (file files) words r e)) (λ s e. none)
 
-  complete_told : ¬ (FolderFails before after) → ¬ (DiskFails before after) → ¬ (OutputFails before after)
+  complete_told : ¬ (FolderFails before after) → DiskHolds (command_in words) before after → ¬ (OutputFails before after)
       → MatchAccepted (accepted (file files) words) (λ r. KnowsDisk (command_in words) after → turns_for (command_in words) r < 2 ^ 62 → (result ≡ status.Ok) ⊎ (result ≡ status.Memory) ⊎ (is_garbled result ≡ true)) (λ s. ⊤)
   complete_told quiet sound dry = ends_each _ _
       (λ r is not. subst (λ s. IfAccepted s (λ x. KnowsDisk (command_in words) after → turns_for (command_in words) x < 2 ^ 62 → (result ≡ status.Ok) ⊎ (result ≡ status.Memory) ⊎ (is_garbled result ≡ true)) ⊤) is (h.complete sound dry))

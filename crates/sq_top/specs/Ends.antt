@@ -49,6 +49,10 @@ DoesPart c r result before after = Writes before after (IsPrefixOfDue c r result
 abbrev pub KnowsDisk : Option Command → Outside → Type 0
 KnowsDisk c after = runs_engine c ≡ true → Tells (known after.disk.log)
 
+-- the disk doesn't fail, where a command runs an engine
+abbrev pub DiskHolds : Option Command → Outside → Outside → Type 0
+DiskHolds c before after = runs_engine c ≡ true → ¬ (DiskFails before after)
+
 -- all was accepted, and in this call the engine came from a new one of it to fail with this status
 abbrev pub IsEngineOf : Script → Outside → Outside → Status → Engine → Type 0
 IsEngineOf left before after result engine = IfAccepted left (λ r. IsOfRun before.disk.log after.disk.log r result engine) ⊥
@@ -84,7 +88,7 @@ pub record Ends (words : List (List ℕ)) (before after : Outside) (result : Sta
   pub sink : result ≡ status.SinkFault → OutputFails before after
   pub too_much : result ≡ status.TooMuch → IfAccepted left (λ r. KnowsDisk (command_in words) after → 2 ^ 62 ≤ turns_for (command_in words) r) ⊥
   -- what is accepted, and isn't too much, ends Ok where nothing fails, but for want of memory or a page that came back garbled
-  pub complete : ¬ (DiskFails before after) → ¬ (OutputFails before after) → IfAccepted left
+  pub complete : DiskHolds (command_in words) before after → ¬ (OutputFails before after) → IfAccepted left
       (λ r. KnowsDisk (command_in words) after → turns_for (command_in words) r < 2 ^ 62
       → (result ≡ status.Ok) ⊎ (result ≡ status.Memory) ⊎ (is_garbled result ≡ true)) ⊤
 

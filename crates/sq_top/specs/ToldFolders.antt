@@ -17,7 +17,7 @@ use Rattle.sq_work.specs.Scripts.{Lookup, AcceptedReplay, accepted, file_reads, 
 use Rattle.sq_status.specs.Messages.{name_at, network_if_ok}
 use Rattle.sq_drive.specs.Stopping.{StopHasCause}
 use Rattle.sq_drive.specs.Failing.{IsOfRun}
-use Rattle.sq_top.specs.Ends.{DiskFails, DoesAll, DoesNothing, DoesPart, FolderFails, KnowsDisk, OutputFails}
+use Rattle.sq_top.specs.Ends.{DiskHolds, DoesAll, DoesNothing, DoesPart, FolderFails, KnowsDisk, OutputFails}
 use Rattle.sq_top.specs.Outside.{Outside}
 use Rattle.sq_top.specs.Texts.{turns_for}
 use Rattle.sq_status.specs.StatusKinds.{is_refusal, is_garbled}
@@ -83,7 +83,7 @@ pub record EndsOver (files : Files) (words : List (List ℕ)) (before after : Ou
       before.disk.log after.disk.log before.disk.faults after.disk.faults result
   pub too_much : result ≡ status.TooMuch
       → MatchAccepted (accepted (file files) words) (λ r. KnowsDisk (command_in words) after → 2 ^ 62 ≤ turns_for (command_in words) r) (λ s. ⊥)
-  pub complete : ¬ (FolderFails before after) → ¬ (DiskFails before after) → ¬ (OutputFails before after)
+  pub complete : ¬ (FolderFails before after) → DiskHolds (command_in words) before after → ¬ (OutputFails before after)
       → MatchAccepted (accepted (file files) words)
       (λ r. KnowsDisk (command_in words) after → turns_for (command_in words) r < 2 ^ 62
       → (result ≡ status.Ok) ⊎ (result ≡ status.Memory) ⊎ (is_garbled result ≡ true)) (λ s. ⊤)

@@ -8,7 +8,7 @@ use Rattle.sq_drive.proofs.DrivingLemmas.{if_err, step_lost, step_stops}
 use Rattle.sq_drive.proofs.WritingLemmas.{lost_at_once, on_ok}
 use Rattle.sq_drive.proofs.FailLemmas.{came_at_once, went_once}
 use Rattle.sq_drive.proofs.counting.count_step.Goals as goal
-use Rattle.sq_drive.proofs.StopLemmas.{last_feed, step_cause, step_cut, lost_cut, lost_stop, falls_lower}
+use Rattle.sq_drive.proofs.StopLemmas.{step_cause, step_cut, lost_cut, lost_stop, falls_lower}
 
 pub count_events-requires : goal.count_events-requires
 count_events-requires g c =
@@ -41,8 +41,7 @@ returns-in-Err-clause-stopped g c =
     subst
     (λ s. StopHasCause (CameTo (g.D.PageDisk.log c.args.disk.now) (g.D.PageDisk.log c.step.new.disk) c.args.engine.now s)
     (g.D.PageDisk.log c.args.disk.now) (g.D.PageDisk.log c.step.new.disk) (g.D.PageDisk.faults c.args.disk.now) (g.D.PageDisk.faults c.step.new.disk) s) (sym c.status_of.ensures)
-    (step_cause _ c.step.new.self _ _ _ _ c.in-Err.e (came_at_once _ _ _ _ _ c.clear.ensures.items _ c.step.ensures.network c.in-Err.ensures.err.step.feed) c.in-Err.ensures.err.failed c.in-Err.ensures.err.step.cause
-    (last_feed _ _ _ _ _ _ c.in-Err.ensures.err.step.feed))
+    (step_cause _ c.step.new.self _ _ _ _ c.in-Err.e (came_at_once _ _ _ _ _ c.clear.ensures.items _ c.step.ensures.network c.in-Err.ensures.err.step.feed) c.in-Err.ensures.err.failed c.in-Err.ensures.err.step.cause)
 
 pub returns-in-Ok-clause-cut : goal.returns-in-Ok-clause-cut
 returns-in-Ok-clause-cut g c =

@@ -8,7 +8,7 @@ use Rattle.sq_drive.proofs.LeftLemmas.{step_fails, step_loses, step_shows}
 use Rattle.sq_drive.proofs.DrivingLemmas.{if_err, if_err_both, step_goes, step_lines, step_lost, step_stops}
 use Rattle.sq_drive.proofs.FailLemmas.{came_at_once}
 use Rattle.sq_drive.proofs.driving.step_once.Goals as goal
-use Rattle.sq_drive.proofs.StopLemmas.{last_feed, step_cause, step_cut, lost_cut, lost_stop, falls_lower}
+use Rattle.sq_drive.proofs.StopLemmas.{step_cause, step_cut, lost_cut, lost_stop, falls_lower}
 
 pub show_events-requires : goal.show_events-requires
 show_events-requires g c =
@@ -38,8 +38,7 @@ returns-in-Err-clause-stopped g c =
     subst
     (λ s. StopHasCause (λ e. (e ≡ c.step.new.self) × CameTo (g.D.PageDisk.log c.args.disk.now) (g.D.PageDisk.log c.step.new.disk) c.args.engine.now s e)
     (g.D.PageDisk.log c.args.disk.now) (g.D.PageDisk.log c.step.new.disk) (g.D.PageDisk.faults c.args.disk.now) (g.D.PageDisk.faults c.step.new.disk) s) (sym c.status_of.ensures)
-    (step_cause _ c.step.new.self _ _ _ _ c.in-Err.e (refl, came_at_once _ _ _ _ _ c.clear.ensures.items _ c.step.ensures.network c.in-Err.ensures.err.step.feed) c.in-Err.ensures.err.failed c.in-Err.ensures.err.step.cause
-    (last_feed _ _ _ _ _ _ c.in-Err.ensures.err.step.feed))
+    (step_cause _ c.step.new.self _ _ _ _ c.in-Err.e (refl, came_at_once _ _ _ _ _ c.clear.ensures.items _ c.step.ensures.network c.in-Err.ensures.err.step.feed) c.in-Err.ensures.err.failed c.in-Err.ensures.err.step.cause)
 
 pub returns-in-Ok-clause-cut : goal.returns-in-Ok-clause-cut
 returns-in-Ok-clause-cut g c =

@@ -29,7 +29,7 @@ returns-then-not-may_be_fed-clause-cause g c =
     inr (
       c.in_ok-item.item,
       refl,
-      record { popped = c.in_ok-item.ensures.face; others = c.in_ok-item.ensures.faces; first = c.in_ok-item.ensures.items },
+      record { popped = c.in_ok-item.ensures.face; others = c.in_ok-item.ensures.faces; first = c.in_ok-item.ensures.first; items = c.in_ok-item.ensures.items },
       λ may. no_way (sym (c.may_be_fed.ensures.no may) ∙ c.if-not-may_be_fed.true),
     )
 
@@ -41,6 +41,9 @@ returns-clause-size g c = c.in_ok-item.ensures.size
 
 pub returns-clause-items : goal.returns-clause-items
 returns-clause-items g c = c.in_ok-item.ensures.items
+
+pub returns-clause-first : goal.returns-clause-first
+returns-clause-first g c = c.in_ok-item.ensures.first
 
 pub returns-clause-others : goal.returns-clause-others
 returns-clause-others g c = c.in_ok-item.ensures.others

@@ -1,12 +1,14 @@
-use Rattle.std.proofs.Common.{◌∙◌, sym, ap, arith}
+use Rattle.std.proofs.Common.{◌∙◌, ℕ, List, sym, ap, subst, arith}
+use Rattle.sq_outside.specs.Disks.{DiskLog}
 use Rattle.sq_link.specs.ChainLists.{Chained, head_or, list_at}
 use Rattle.std.specs.Prelude.{None}
 use Rattle.sq_pool.proofs.TrustLemmas.{IsLater-trans}
+use Rattle.sq_paged.specs.Faces.{IsFirstAlong, IsFirstPaged}
 use Rattle.sq_paged.specs.declared.store.Kept.{Kept}
 use Rattle.sq_paged.proofs.AlongLemmas.{head-is}
 use Rattle.sq_paged.proofs.TouchLemmas.{alone-by}
 use Rattle.sq_paged.proofs.ArcLemmas.{take-removes, gone-removes}
-use Rattle.sq_paged.proofs.CallLemmas.{inside, first-in, left-is, cause-refusal, plain-refusal, rose-since, some-first, taken-inside, taken-below, taken-held}
+use Rattle.sq_paged.proofs.CallLemmas.{inside, first-in, left-is, cause-refusal, plain-refusal, rose-since, some-first, taken-inside, taken-below, taken-held, taken-there}
 use Rattle.sq_paged.proofs.CauseLemmas.{told-fits-all}
 use Rattle.sq_paged.proofs.Queues.take.Goals as goal
 
@@ -126,3 +128,20 @@ returns-in-Err-drop_first-clause-later g c = IsLater-trans _ _ _ c.take_first.en
 
 pub returns-in-Err-drop_first-clause-faults : goal.returns-in-Err-drop_first-clause-faults
 returns-in-Err-drop_first-clause-faults g c = omega (arith, c.take_first.ensures.faults, c.drop_first.ensures.faults)
+
+pub returns-then-index-gt0-clause-first : goal.returns-then-index-gt0-clause-first
+returns-then-index-gt0-clause-first g c =
+    let q = c.args.self.now in
+    let h = head-is c.in-Some.node _ (sym c.in-Some.ensures) in
+    subst (λ (nodes : List ℕ). IsFirstAlong q.pool (g.D.PageDisk.log c.args.disk.now) (g.D.PageDisk.log c.take_first.new.disk) q.kept.items nodes c.in-Ok.item) (sym h.1) c.in-Ok.ensures.first
+
+pub returns-in-Ok-drop_first-clause-first : goal.returns-in-Ok-drop_first-clause-first
+returns-in-Ok-drop_first-clause-first g c =
+    let q = c.args.self.now in
+    let before = g.D.PageDisk.log c.args.disk.now in
+    let alone = alone-by q c.requires.together.nodes c.one_place_each.ensures in
+    let h = head-is c.in-Some.node _ (sym c.in-Some.ensures) in
+    let below = alone.below c.args.arc c.in-Some.node (first-in q c.args.arc c.in-Some.node (sym c.in-Some.ensures)) in
+    let same = c.in-Ok-drop_first.ensures.log (taken-there q _ c.take_first.new.self _ c.in-Some.node c.in-Ok.item c.in-Ok.ensures.ok below) in
+    subst (λ (log : DiskLog). IsFirstPaged q before log c.args.arc c.in-Ok.item) (sym same)
+    (subst (λ (nodes : List ℕ). IsFirstAlong q.pool before (g.D.PageDisk.log c.take_first.new.disk) q.kept.items nodes c.in-Ok.item) (sym h.1) c.in-Ok.ensures.first)

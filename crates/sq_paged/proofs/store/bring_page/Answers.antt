@@ -1,6 +1,6 @@
 use Rattle.std.proofs.Common.{sym}
-use Rattle.sq_paged.proofs.StoreLemmas.{brought-there, brought-back, told-fits}
-use Rattle.sq_paged.proofs.CauseLemmas.{if-err, none-by, pool-cause, pool-fits, told-fits-all, misfit-cause}
+use Rattle.sq_paged.proofs.StoreLemmas.{brought-there, brought-back, told-fits, were-there}
+use Rattle.sq_paged.proofs.CauseLemmas.{if-err, none-by, pool-cause, pool-fits, told-fits-all, misfit-cause, were-back}
 use Rattle.sq_paged.proofs.store.bring_page.Goals as goal
 use Rattle.sq_words.proofs.Results.{OnOk_weaker}
 
@@ -13,6 +13,14 @@ returns-clause-ok g c =
     OnOk_weaker c.test_page.result
     (brought-back _ _ _ _ c.args.kept.now c.in-Ok.ensures.pool c.in-Ok.ensures.map c.bring.ensures.later.known c.in-Ok.ensures.agree c.in-Ok.ensures.frames c.requires.held c.page.result.now c.page.ensures.value)
     c.test_page.ensures.ok
+
+pub returns-then-there-clause-had : goal.returns-then-there-clause-had
+returns-then-there-clause-had g c = λ bytes e. were-there _ _ _ _ _ _ c.args.kept.now.page bytes c.in-Ok.ensures.pool (sym c.if-there.ensures) e
+
+pub returns-clause-had : goal.returns-clause-had
+returns-clause-had g c =
+    let back = c.in-Ok.ensures.came (none-by _ c.if-there.ensures) in
+    OnOk_weaker c.test_page.result (λ fits bytes e. were-back c.args.pool.now c.bring.new.self _ _ c.args.kept.now.page bytes back e) c.test_page.ensures.ok
 
 pub returns-in-Err-clause-cause : goal.returns-in-Err-clause-cause
 returns-in-Err-clause-cause g c = rw c.failed.ensures (pool-cause c.args.pool.now c.bring.new.self _ _ c.args.kept.now c.in-Err.e c.in-Err.ensures.garbled)

@@ -1,5 +1,5 @@
 use Rattle.std.proofs.Common.{refl}
-use Rattle.sq_paged.proofs.StoreLemmas.{taken, fits-begins, next-begins, rebrought}
+use Rattle.sq_paged.proofs.StoreLemmas.{taken, first-of, fits-begins, next-begins, rebrought}
 use Rattle.sq_paged.proofs.store.take_from_page.Goals as goal
 
 pub item_at-requires : goal.item_at-requires
@@ -16,3 +16,8 @@ pub returns-clause-ok : goal.returns-clause-ok
 returns-clause-ok g c =
     let b = rebrought _ _ _ _ c.args.kept.now c.in-Ok.ensures.ok c.page-bytes.result.now c.page-bytes.ensures.value in
     taken _ _ _ _ c.args.kept.now _ c.in-Ok-item_at.found.0 c.in-Ok-item_at.found.1 c.next_time-time.result b c.requires.some c.in-Ok-item_at.ensures.item c.next_time-time.ensures refl
+
+pub returns-clause-first : goal.returns-clause-first
+returns-clause-first g c =
+    let b = rebrought _ _ _ _ c.args.kept.now c.in-Ok.ensures.ok c.page-bytes.result.now c.page-bytes.ensures.value in
+    first-of _ _ _ c.args.kept.now _ c.in-Ok-item_at.found.1 c.page-bytes.result.now b.fits c.requires.some (c.in-Ok.ensures.had c.page-bytes.result.now c.page-bytes.ensures.value) c.in-Ok-item_at.ensures.item

@@ -8,7 +8,7 @@ use Rattle.std.specs.Vec.{with_item}
 use Rattle.std.proofs.lemmas.Option.{slice_get_read}
 use Rattle.sq_paged.specs.Faces as pages
 use Rattle.sq_paged.specs.Fronts.{IsPopped}
-use Rattle.sq_queue.specs.Faces.{face, face_at, front_at, items_on}
+use Rattle.sq_queue.specs.Faces.{LeadsOr, face, face_at, front_at, items_on}
 use Rattle.sq_queue.specs.declared.Lane.{Lane}
 use Rattle.sq_queue.specs.declared.Queues.{Queues}
 use Rattle.sq_queue.proofs.LaneLemmas.{Takes, taken-lane, taken-face, taken-sound, other-face, front-counted}
@@ -84,6 +84,16 @@ returns-then-is_empty-clause-items g c =
     subst (λ (ls : List Lane). IfOk c.pop_behind.result (λ item. Tells now → front_at (slice_get ls arc) ++ pages.paged_items_on q.paged told arc ≡ item ∷ items_on c.pop_behind.new.self now arc))
     (same-lanes q.lanes.items arc lane c.index_mut-lane.ensures.value) c.pop_behind.ensures.items
 
+pub returns-then-is_empty-clause-first : goal.returns-then-is_empty-clause-first
+returns-then-is_empty-clause-first g c =
+    let q = c.args.self.now in
+    let arc = c.args.arc in
+    let lane = c.index_mut-lane.result.now in
+    let before = g.D.PageDisk.log c.args.disk.now in
+    let after = g.D.PageDisk.log c.pop_behind.new.disk in
+    subst (λ (ls : List Lane). IfOk c.pop_behind.result (λ item. LeadsOr (front_at (slice_get ls arc)) item (pages.IsFirstPaged q.paged before after arc item)))
+    (same-lanes q.lanes.items arc lane c.index_mut-lane.ensures.value) c.pop_behind.ensures.first
+
 pub returns-then-is_empty-clause-others : goal.returns-then-is_empty-clause-others
 returns-then-is_empty-clause-others g c =
     let q = c.args.self.now in
@@ -129,6 +139,17 @@ returns-clause-items g c tells =
     let was = slice_get_read q.lanes.items _ arc lane refl c.requires.there c.index_mut-lane.ensures.value in
     taken-items q told r told arc lane new c.take_first.result c.requires.there was refl
     (ap (λ (xs : List Item). xs ++ pages.paged_items_on q.paged told arc) c.take_first.ensures.front)
+
+pub returns-clause-first : goal.returns-clause-first
+returns-clause-first g c =
+    let q = c.args.self.now in
+    let arc = c.args.arc in
+    let lane = c.index_mut-lane.result.now in
+    let item = c.take_first.result in
+    let before = g.D.PageDisk.log c.args.disk.now in
+    let was = slice_get_read q.lanes.items _ arc lane refl c.requires.there c.index_mut-lane.ensures.value in
+    subst (λ (o : Option Lane). LeadsOr (front_at o) item (pages.IsFirstPaged q.paged before before arc item)) (sym was)
+    (subst (λ (front : List Item). LeadsOr front item (pages.IsFirstPaged q.paged before before arc item)) (sym c.take_first.ensures.front) refl)
 
 pub returns-clause-others : goal.returns-clause-others
 returns-clause-others g c tells other differ =

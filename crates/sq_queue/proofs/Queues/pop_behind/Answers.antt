@@ -5,7 +5,7 @@ use Rattle.std.proofs.lemmas.Option.{slice_get_read}
 use Rattle.sq_paged.specs.Faces as pages
 use Rattle.sq_item.specs.declared.Item.{Item}
 use Rattle.sq_pool.specs.Trust.{known}
-use Rattle.sq_queue.specs.Faces.{front_at}
+use Rattle.sq_queue.specs.Faces.{LeadsOr, front_at}
 use Rattle.sq_queue.specs.declared.Queues.{Queues}
 use Rattle.sq_queue.proofs.LaneLemmas.{popped_lane, popped-lane, other-face, popped-face, face-popped-behind}
 use Rattle.sq_queue.proofs.TogetherLemmas.{written-together, own-lane, other-items, taken-items}
@@ -28,6 +28,9 @@ returns-in-Err-clause-frames g c = tt
 
 pub returns-in-Err-clause-items : goal.returns-in-Err-clause-items
 returns-in-Err-clause-items g c = tt
+
+pub returns-in-Err-clause-first : goal.returns-in-Err-clause-first
+returns-in-Err-clause-first g c = tt
 
 pub returns-in-Err-clause-others : goal.returns-in-Err-clause-others
 returns-in-Err-clause-others g c = tt
@@ -108,6 +111,12 @@ returns-clause-items g c tells =
     taken-items q told r now arc lane new c.in-Ok.item c.requires.there was refl
     (ap (λ (xs : List Item). xs ++ pages.paged_items_on q.paged told arc) empty ∙ c.in-Ok.ensures.items tells
     ∙ ap (λ (xs : List Item). c.in-Ok.item ∷ (xs ++ pages.paged_items_on c.pop.new.self now arc)) (sym empty))
+
+pub returns-clause-first : goal.returns-clause-first
+returns-clause-first g c =
+    let item = c.in-Ok.item in
+    let behind = pages.IsFirstPaged c.args.self.now.paged (g.D.PageDisk.log c.args.disk.now) (g.D.PageDisk.log c.pop.new.disk) c.args.arc item in
+    subst (λ (front : List Item). LeadsOr front item behind) (sym c.requires.empty) c.in-Ok.ensures.first
 
 pub returns-clause-others : goal.returns-clause-others
 returns-clause-others g c tells other differ =

@@ -109,7 +109,7 @@ returns-in-Err-count_item-clause-err g c =
       feed =
           fails-here _ _ _ _ _ _ _ c.requires.flow c.requires.together c.in-Ok.ensures.later
           (full-feed c.args.self.now (record c.args.self.now { queues = c.take_item.new.queues }) c.args.actor c.args.port c.args.arc c.in-Ok.item _ _ _ c.requires.head.1.1 refl
-          (record { popped = c.in-Ok.ensures.popped; others = c.in-Ok.ensures.faces; first = c.in-Ok.ensures.items }) c.in-Err-count_item.ensures.err c.in-Err-count_item.ensures.too_much);
+          (record { popped = c.in-Ok.ensures.popped; others = c.in-Ok.ensures.faces; first = c.in-Ok.ensures.first; items = c.in-Ok.ensures.items }) c.in-Err-count_item.ensures.err c.in-Err-count_item.ensures.too_much);
       cost = costs-none _ c.args.self.now c.requires.flow (known (g.D.PageDisk.log c.args.disk.now)) (known (g.D.PageDisk.log c.take_item.new.disk)) c.args.self.now.levels c.args.steps.now c.args.steps.now refl;
       too_much =
           too-much-front _ c.args.self.now c.requires.flow c.args.actor c.requires.head.0 c.args.port c.args.arc c.arc-at.result.now c.in-Ok.item c.requires.actor_in c.requires.head.1 c.index.result.now is c.arc-at.ensures
