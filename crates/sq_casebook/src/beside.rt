@@ -9,7 +9,7 @@ use crate::case::Case;
 use crate::counts::compare_counts;
 use crate::given::{Given, given_by};
 use crate::texts::{push_line, setting};
-use sq_lines::append_output_line;
+use sq_lines::{Quoter, append_output_line};
 use sq_model::{answer, dropped, work};
 use sq_net::Network;
 use sq_points::network_points;
@@ -44,8 +44,9 @@ pub fn push_class(lines: &mut String, text: &str, class: &str) -> Result<(), All
 /// The lines that show these tuples at an output.
 fn lines_for(alloc: Global, name: &Name, tuples: &[Tuple]) -> Result<Vec<u8>, AllocError> {
     let mut lines = Vec::new(alloc);
+    let mut quoter = Quoter::new();
     for tuple in tuples {
-        append_output_line(name, tuple, &mut lines)?;
+        append_output_line(name, tuple, &mut quoter, &mut lines)?;
     }
     Ok(lines)
 }

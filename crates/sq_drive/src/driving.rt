@@ -17,7 +17,7 @@ ghost use Rattle.sq_drive.specs.Failing.{CameTo};
 
 use crate::writing::{send, send_piece};
 use sq_core::{Engine, RunErr};
-use sq_lines::event_line;
+use sq_lines::{Quoter, append_event_line};
 use sq_net::Network;
 use sq_oper::Event;
 use sq_outside::{PageDisk, Sink, Steps};
@@ -33,12 +33,14 @@ struct Held {
     events: Vec<Event>,
     /// Lines that wait to be written.
     text: Vec<u8>,
+    quoter: Quoter,
 }
 
 /// Writes the line of an event.
 fn show_event<S: Sink>(
     network: &Network,
     event: &Event,
+    quoter: &mut Quoter,
     text: &mut Vec<u8>,
     out: &mut S,
 ) -> Result<(), Status>
@@ -48,7 +50,7 @@ fn show_event<S: Sink>(
     ensures lost { IfErr result (λ s. IsLost (S.faults out.old) (S.faults out.new) s) }
     ensures later { S.faults out.old ≤ S.faults out.new }
 {
-    match event_line(network, event, text) {
+    match append_event_line(network, event, quoter, text) {
         Ok(()) => send_piece(text, out),
         Err(_) => Err(Status::Memory),
     }
@@ -58,6 +60,7 @@ fn show_event<S: Sink>(
 fn show_events<S: Sink>(
     network: &Network,
     events: &[Event],
+    quoter: &mut Quoter,
     text: &mut Vec<u8>,
     out: &mut S,
 ) -> Result<(), Status>
@@ -68,7 +71,7 @@ fn show_events<S: Sink>(
     ensures later { S.faults out.old ≤ S.faults out.new }
 {
     'events: for event in events {
-        match show_event(network, event, text, out) {
+        match show_event(network, event, quoter, text, out) {
             Ok(()) => {}
             Err(status) => return Err(status),
         }
@@ -119,7 +122,13 @@ fn step_once<D: PageDisk, S: Sink, L: Ledger>(
     let pick = policy.next(engine.ready(), engine.waits());
     held.events.clear();
     match engine.step(pick, disk, &mut held.events, steps) {
-        Ok(_) => show_events(&engine.network, held.events.as_slice(), &mut held.text, out),
+        Ok(_) => show_events(
+            &engine.network,
+            held.events.as_slice(),
+            &mut held.quoter,
+            &mut held.text,
+            out,
+        ),
         Err(e) => Err(status_of(e)),
     }
 }
@@ -155,6 +164,7 @@ fn step_to_end<D: PageDisk, S: Sink, L: Ledger>(
     let mut held = Held {
         events: Vec::new(alloc),
         text: Vec::new(alloc),
+        quoter: Quoter::new(),
     };
     'steps: while !engine.ended() {
         match step_once(engine, policy, disk, &mut held, out, steps) {

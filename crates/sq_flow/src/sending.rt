@@ -21,7 +21,7 @@ use crate::wires::Wires;
 use sq_item::Item;
 use sq_oper::{Decision, Event};
 use sq_outside::PageDisk;
-use sq_queue::{QueueErr, Queues};
+use sq_queue::{QueueErr, Queues, item_room};
 use sq_value::Tuple;
 use std::alloc::AllocError;
 
@@ -112,9 +112,10 @@ pub(crate) fn send_one<D: PageDisk>(
     ensures faults { D.faults disk.old ≤ D.faults disk.new }
     ensures later { IsLater (D.log disk.old) (D.log disk.new) }
 {
+    let bytes = item_room(&item);
     match wires.arcs_at(actor, port) {
         [] => Ok(()),
-        [arc] if queues.has_room(*arc) => queues.put(*arc, item),
+        [arc] if queues.has_room(*arc, bytes) => queues.put(*arc, item, bytes),
         arcs => send_any(arcs, queues, disk, item, failed),
     }
 }

@@ -1,8 +1,7 @@
 -- Written rows read back.
-use Rattle.sq_csv.specs.declared.read.Within.TheVariants.{Bare, Closed, Quoted, Start}
+use Rattle.sq_csv.specs.Records.{Bare, Closed, Quoted, Start, all_fields, ends_record, fields_from, is_comma, is_quote, sole_record}
 use Rattle.std.proofs.Common.{List, Some, ap, append_assoc, arith, false, inl, inr, refl, ℕ, [], ◌≡◌, ◌∙◌, ◌==◌, ◌∷◌, ◌++◌}
 use Rattle.sq_lines.specs.Rows.{RowsAreReadBack}
-use Rattle.sq_csv.specs.Records.{all_fields, ends_record, fields_from, is_comma, is_quote, sole_record}
 use Rattle.std.proofs.lemmas.Bool.{cases_Bool}
 use Rattle.sq_lines.specs.LineTexts.{doubled, field_text, more_fields, needs_quotes, row_of}
 use Rattle.std.specs.List.{list_any}

@@ -1,5 +1,5 @@
 -- Rows by the kit's `csv`, and rows that show their fields as they stand.
-use Rattle.std.specs.Prelude.{◌≡◌, ◌==◌, ℕ, Bool, true, false, List, [], ◌∷◌, length, Some}
+use Rattle.std.specs.Prelude.{◌≡◌, ◌==◌, ◌||◌, ℕ, Bool, true, false, List, [], ◌∷◌, length, Some}
 use Rattle.csv.specs.Writing.{default_writer, row_text}
 use Rattle.sq_lines.specs.LineTexts.{line_of, row_of}
 use Rattle.sq_csv.specs.Records.{sole_record}
@@ -13,6 +13,10 @@ abbrev pub shows_nothing : List (List ℕ) → Bool
 shows_nothing [] = true
 shows_nothing (f ∷ []) = length f == 0
 shows_nothing (f ∷ g ∷ fs) = false
+
+-- a byte that isn't as it stands between quotes, or that breaks a line there
+abbrev pub breaks_quotes : ℕ → Bool
+breaks_quotes b = (b == 34) || (b == 13) || (b == 10)
 
 -- a row of two fields and more is one record, of these fields
 abbrev pub RowsAreReadBack : Type 0

@@ -5,6 +5,7 @@ ghost use Rattle.sq_words.specs.Lists.{IsPrefixOf};
 ghost use Rattle.sq_lines.specs.LineTexts.{box_line, end_line, field_text, late_line, line_of, more_fields, output_line};
 ghost use Rattle.sq_value.specs.Texts.{text_of};
 
+use crate::quoting::Quoter;
 use crate::written::{append_field, append_line};
 use itoa::Buffer;
 use sq_value::{Name, Tuple, Value};
@@ -22,7 +23,7 @@ fn append_number(number: u64, out: &mut Vec<u8>) -> Result<(), AllocError>
 
 /// Puts the text of a value at the end, in quotes where it needs them.
 #[tactic(auto, using(crate::proofs::NumberLemmas::signed_bare))]
-fn append_value(value: &Value, out: &mut Vec<u8>) -> Result<(), AllocError>
+fn append_value(value: &Value, quoter: &mut Quoter, out: &mut Vec<u8>) -> Result<(), AllocError>
     ensures ok { OnOk result (out.new.items ≡ out.old.items ++ field_text (text_of value.now)) }
     ensures kept { IsPrefixOf out.old.items out.new.items }
 {
@@ -34,17 +35,21 @@ fn append_value(value: &Value, out: &mut Vec<u8>) -> Result<(), AllocError>
         }
         Value::Bool(true) => out.extend_from_slice(b"true"),
         Value::Bool(false) => out.extend_from_slice(b"false"),
-        Value::Text(t) => append_field(t.as_str().as_bytes(), out),
+        Value::Text(t) => append_field(t.as_str().as_bytes(), quoter, out),
     }
 }
 
-fn append_values(values: &[Value], out: &mut Vec<u8>) -> Result<(), AllocError>
+fn append_values(
+    values: &[Value],
+    quoter: &mut Quoter,
+    out: &mut Vec<u8>,
+) -> Result<(), AllocError>
     ensures ok { OnOk result (out.new.items ≡ out.old.items ++ more_fields (map text_of values.now)) }
     ensures kept { IsPrefixOf out.old.items out.new.items }
 {
     for value in values {
         out.push(b',')?;
-        append_value(value, out)?;
+        append_value(value, quoter, out)?;
     }
     Ok(())
 }
@@ -53,27 +58,33 @@ fn append_tuple(
     name: &Name,
     time: u64,
     values: &[Value],
+    quoter: &mut Quoter,
     out: &mut Vec<u8>,
 ) -> Result<(), AllocError>
     ensures ok { OnOk result (out.new.items ≡ out.old.items ++ line_of (name.now ∷ decimal time ∷ map text_of values.now)) }
     ensures kept { IsPrefixOf out.old.items out.new.items }
 {
-    append_field(name.as_str().as_bytes(), out)?;
+    append_field(name.as_str().as_bytes(), quoter, out)?;
     out.push(b',')?;
     append_number(time, out)?;
-    append_values(values, out)?;
+    append_values(values, quoter, out)?;
     out.push(b'\n')?;
     Ok(())
 }
 
 /// Puts the line of an output's tuple at the end: its name, the time and the values, Null as nothing.
 /// Where memory runs out nothing is written.
-pub fn append_output_line(name: &Name, t: &Tuple, out: &mut Vec<u8>) -> Result<(), AllocError>
+pub fn append_output_line(
+    name: &Name,
+    t: &Tuple,
+    quoter: &mut Quoter,
+    out: &mut Vec<u8>,
+) -> Result<(), AllocError>
     ensures ok { OnOk result (out.new.items ≡ out.old.items ++ output_line name.now t.now) }
     ensures err { OnErr result (out.new.items ≡ out.old.items) }
 {
     let start = out.len();
-    if let Err(e) = append_tuple(name, t.time, t.fields.as_slice(), out) {
+    if let Err(e) = append_tuple(name, t.time, t.fields.as_slice(), quoter, out) {
         out.truncate(start);
         return Err(e);
     }

@@ -5,6 +5,7 @@ ghost use Rattle.sq_lines.specs.LineTexts.{drop_line, plan_line};
 ghost use Rattle.sq_lines.specs.RunLines.{AppendsPart, IsEventOf, end_lines, end_lines_from, event_line, fed_line, fits_text, late_text, lines_text};
 
 use crate::lines::{append_box_line, append_end_line, append_late_line, append_output_line};
+use crate::quoting::Quoter;
 use crate::written::append_line;
 use itoa::Buffer;
 use sq_net::{Body, Network, Node};
@@ -64,9 +65,14 @@ fn append_plan_line(
     )
 }
 
-/// Appends the line of an event. Where memory runs out a part of it stands there, or nothing.
+/// Appends the line of an event, as one of many that a quoter serves. Where memory runs out a part of it stands there, or nothing.
 #[inline]
-pub fn event_line(n: &Network, e: &Event, out: &mut Vec<u8>) -> Result<(), AllocError>
+pub fn append_event_line(
+    n: &Network,
+    e: &Event,
+    quoter: &mut Quoter,
+    out: &mut Vec<u8>,
+) -> Result<(), AllocError>
     requires { IsEventOf n.now e.now }
     ensures ok { OnOk result (out.new.items ≡ out.old.items ++ event_line n.now e.now) }
     ensures err { OnErr result (AppendsPart out.old.items out.new.items (event_line n.now e.now)) }
@@ -74,7 +80,7 @@ pub fn event_line(n: &Network, e: &Event, out: &mut Vec<u8>) -> Result<(), Alloc
     match e {
         Event::Line { output, tuple } => {
             let shown = &n.outputs.as_slice()[*output as usize];
-            append_output_line(&shown.name, tuple, out)
+            append_output_line(&shown.name, tuple, quoter, out)
         }
         Event::Dropped(decision) => append_drop_line(decision, out),
         Event::Plan {
@@ -85,6 +91,15 @@ pub fn event_line(n: &Network, e: &Event, out: &mut Vec<u8>) -> Result<(), Alloc
             fits,
         } => append_plan_line(*epoch, *load, *capacity, *saved, *fits, out),
     }
+}
+
+/// Appends the line of an event. Where memory runs out a part of it stands there, or nothing.
+pub fn event_line(n: &Network, e: &Event, out: &mut Vec<u8>) -> Result<(), AllocError>
+    requires { IsEventOf n.now e.now }
+    ensures ok { OnOk result (out.new.items ≡ out.old.items ++ event_line n.now e.now) }
+    ensures err { OnErr result (AppendsPart out.old.items out.new.items (event_line n.now e.now)) }
+{
+    append_event_line(n, e, &mut Quoter::new(), out)
 }
 
 /// Appends the lines of the boxes, where each was fed so many tuples.

@@ -1,11 +1,11 @@
 // Rows as lines.
-ghost use Rattle.std.specs.Prelude.{◌≡◌, ◌++◌, map, OnOk, OnErr};
+ghost use Rattle.std.specs.Prelude.{◌≡◌, ◌++◌, false, map, OnOk, OnErr};
 ghost use Rattle.std.specs.List.{list_any};
 ghost use Rattle.sq_words.specs.Lists.{IsPrefixOf};
 ghost use Rattle.sq_lines.specs.LineTexts.{doubled, field_text, line_of, more_fields, needs_quotes, row_of};
-ghost use Rattle.sq_lines.specs.Rows.{shows_nothing};
+ghost use Rattle.sq_lines.specs.Rows.{breaks_quotes, shows_nothing};
 
-use sq_csv::cut_first;
+use crate::quoting::Quoter;
 use std::alloc::AllocError;
 
 /// Whether a field stands in quotes: where it has a comma, a quote, CR or LF. Most bytes lie above a comma, and one test tells so.
@@ -15,31 +15,33 @@ fn needs_quotes(field: &[u8]) -> bool
     field.iter().any(|b| *b <= b',' && (*b == b',' || *b == b'"' || *b == b'\r' || *b == b'\n'))
 }
 
-/// Puts a field at the end, each of its quotes twice.
-fn append_doubled(field: &[u8], out: &mut Vec<u8>) -> Result<(), AllocError>
-    ensures ok { OnOk result (out.new.items ≡ out.old.items ++ doubled field.now) }
-    ensures kept { IsPrefixOf out.old.items out.new.items }
+/// Whether a field has a quote, CR or LF, and not a comma alone for which it would stand in quotes.
+fn breaks_quotes(field: &[u8]) -> bool
+    ensures breaks { result ≡ list_any breaks_quotes field.now }
+    ensures same { result ≡ false → doubled field.now ≡ field.now }
 {
-    let mut rest = field;
-    while let Some((part, behind)) = cut_first(rest, b'"') {
-        out.extend_from_slice(part)?;
-        out.extend_from_slice(b"\"\"")?;
-        rest = behind;
-    }
-    out.extend_from_slice(rest)
+    field.iter().any(|b| *b <= b'"' && (*b == b'"' || *b == b'\r' || *b == b'\n'))
 }
 
-/// Puts a field at the end, in quotes where it needs them.
+/// Puts a field at the end, in quotes where it needs them. One that has a comma alone is the same between them; others are written
+/// by `csv`.
 #[inline(always)]
-pub(crate) fn append_field(field: &[u8], out: &mut Vec<u8>) -> Result<(), AllocError>
+pub(crate) fn append_field(
+    field: &[u8],
+    quoter: &mut Quoter,
+    out: &mut Vec<u8>,
+) -> Result<(), AllocError>
     ensures ok { OnOk result (out.new.items ≡ out.old.items ++ field_text field.now) }
     ensures kept { IsPrefixOf out.old.items out.new.items }
 {
     if !needs_quotes(field) {
         return out.extend_from_slice(field);
     }
+    if breaks_quotes(field) {
+        return quoter.append(field, out);
+    }
     out.push(b'"')?;
-    append_doubled(field, out)?;
+    out.extend_from_slice(field)?;
     out.push(b'"')?;
     Ok(())
 }
@@ -55,18 +57,26 @@ fn shows_nothing(fields: &[&[u8]]) -> bool
     }
 }
 
-fn append_more(fields: &[&[u8]], out: &mut Vec<u8>) -> Result<(), AllocError>
+fn append_more(
+    fields: &[&[u8]],
+    quoter: &mut Quoter,
+    out: &mut Vec<u8>,
+) -> Result<(), AllocError>
     ensures ok { OnOk result (out.new.items ≡ out.old.items ++ more_fields (map (λ f. f.now) fields.now)) }
     ensures kept { IsPrefixOf out.old.items out.new.items }
 {
     for field in fields {
         out.push(b',')?;
-        append_field(field, out)?;
+        append_field(field, quoter, out)?;
     }
     Ok(())
 }
 
-fn append_row(fields: &[&[u8]], out: &mut Vec<u8>) -> Result<(), AllocError>
+fn append_row(
+    fields: &[&[u8]],
+    quoter: &mut Quoter,
+    out: &mut Vec<u8>,
+) -> Result<(), AllocError>
     ensures ok { OnOk result (out.new.items ≡ out.old.items ++ row_of (map (λ f. f.now) fields.now)) }
     ensures kept { IsPrefixOf out.old.items out.new.items }
 {
@@ -76,15 +86,15 @@ fn append_row(fields: &[&[u8]], out: &mut Vec<u8>) -> Result<(), AllocError>
     let [first, more @ ..] = fields else {
         return Ok(());
     };
-    append_field(first, out)?;
-    append_more(more, out)
+    append_field(first, quoter, out)?;
+    append_more(more, quoter, out)
 }
 
 fn append_whole(fields: &[&[u8]], out: &mut Vec<u8>) -> Result<(), AllocError>
     ensures ok { OnOk result (out.new.items ≡ out.old.items ++ line_of (map (λ f. f.now) fields.now)) }
     ensures kept { IsPrefixOf out.old.items out.new.items }
 {
-    append_row(fields, out)?;
+    append_row(fields, &mut Quoter::new(), out)?;
     out.push(b'\n')?;
     Ok(())
 }

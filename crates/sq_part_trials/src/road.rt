@@ -52,22 +52,23 @@ fn has_steps(road: &Road) -> bool {
     has
 }
 
-fn is_row(road: &Road, capacity: u128, taken: u32, saved: u128) -> bool {
-    let row = road.row_for(3000, capacity);
-    (row.taken, row.saved, row.fits) == (taken, saved, true)
+fn is_row(road: &Road, load: u128, capacity: u128, wanted: (u32, u128, bool)) -> bool {
+    let row = road.row_for(load, capacity);
+    (row.taken, row.saved, row.fits) == wanted
 }
 
-const ROWS: [(u128, u32, u128); 4] = [
-    (2000, 15, 1000),
-    (2500, 10, 500),
-    (3000, 0, 0),
-    (0, 40, 3000),
+const ROWS: [(u128, u128, (u32, u128, bool)); 5] = [
+    (3000, 2000, (15, 1000, true)),
+    (3000, 2500, (10, 500, true)),
+    (3000, 3000, (0, 0, true)),
+    (3000, 0, (40, 3000, true)),
+    (4000, 0, (40, 3000, false)),
 ];
 
 fn has_rows(road: &Road) -> bool {
     let mut has = true;
-    for (capacity, taken, saved) in &ROWS {
-        has = has && is_row(road, *capacity, *taken, *saved);
+    for (load, capacity, wanted) in &ROWS {
+        has = has && is_row(road, *load, *capacity, *wanted);
     }
     has
 }
@@ -89,6 +90,60 @@ fn is_as_expected(road: &Road) -> bool {
 fn rows_take_the_steps_that_lose_least_for_their_gain(rt: HostRuntime) -> Result<(), Fail> {
     let road = road_of_three(rt.alloc())?;
     assert!(rt; is_as_expected(&road));
+    Ok(())
+}
+
+/// Two drops that lose alike, of which the first gains nothing.
+fn road_of_two(alloc: Global) -> Result<Road, Fail> {
+    let flat = losses_of(alloc, 500000)?;
+    let gains = Vec::from_slice(alloc, &[0, 7])?;
+    let losses = Vec::from_slice(alloc, &[flat, flat])?;
+    Ok(road(alloc, &gains, &losses)?)
+}
+
+// Whether all steps are a drop's.
+fn are_of(road: &Road, drop: u32) -> bool {
+    let mut are = true;
+    for i in 0..road.steps() {
+        are = are && road.step(i).drop == drop;
+    }
+    are
+}
+
+// The first step of the second drop alone.
+fn takes_one_step(road: &Road) -> bool {
+    let row = road.row_for(100, 95);
+    (row.taken, row.saved, row.loss, row.fits) == (1, 7, 11_639_628_000_000, true)
+        && row.ratio == Frac::new(11_639_628_000_000, 7)
+        && row.taken <= road.steps()
+        && (road.level(row.taken, 0), road.level(row.taken, 1)) == (0, 50)
+}
+
+#[test]
+fn a_drop_that_gains_nothing_has_no_step(rt: HostRuntime) -> Result<(), Fail> {
+    let road = road_of_two(rt.alloc())?;
+    assert!(rt; road.steps() == 20 && are_of(&road, 1));
+    assert!(rt; takes_one_step(&road));
+    Ok(())
+}
+
+fn road_of_none(alloc: Global) -> Result<Road, Fail> {
+    let losses: Vec<[u128; 20]> = Vec::new(alloc);
+    Ok(road(alloc, &Vec::new(alloc), &losses)?)
+}
+
+// The row of no steps, which loses nothing.
+fn is_empty_row(road: &Road, load: u128, capacity: u128, fits: bool) -> bool {
+    let row = road.row_for(load, capacity);
+    (row.taken, row.saved, row.loss, row.fits) == (0, 0, 0, fits)
+        && row.ratio == Frac::new(0, 1)
+}
+
+#[test]
+fn a_road_of_no_drops_has_one_row(rt: HostRuntime) -> Result<(), Fail> {
+    let road = road_of_none(rt.alloc())?;
+    assert!(rt; road.steps() == 0);
+    assert!(rt; is_empty_row(&road, 5, 3, false) && is_empty_row(&road, 3, 5, true));
     Ok(())
 }
 

@@ -4,12 +4,14 @@ use Rattle.std.proofs.Math.Dec.{eqb-suc-zero}
 use Rattle.std.proofs.Math.ListN.{set}
 use Rattle.std.specs.Prelude.{Result, Ok, Err, OnOk, OnErr, is_some, slice_get, unwrap_or}
 use Rattle.std.specs.List.{AllByRecursion}
+use Rattle.std.proofs.lemmas.Grind.{flat_map-append}
 use Rattle.std.proofs.lemmas.List.{length-append, append-nil}
 use Rattle.sq_item.specs.declared.Item.{Item}
 use Rattle.sq_item.specs.SoundItems.{IsSoundItem}
+use Rattle.sq_page.specs.Pages.{item_bytes, items_bytes}
 use Rattle.sq_paged.specs.Faces.{is_first}
 use Rattle.sq_paged.specs.Fronts.{Face, IsFaceOf, IsPopped, first_time, first_time_or, pushed}
-use Rattle.sq_queue.specs.Faces.{face_at, front_at, behind_at, first_time_of, IsLane}
+use Rattle.sq_queue.specs.Faces.{bytes_of, face_at, front_at, behind_at, first_time_of, IsLane}
 use Rattle.sq_queue.specs.declared.Lane.{Lane}
 use Rattle.sq_paged.proofs.LaneLemmas.{first-given}
 use Rattle.sq_words.proofs.Lists.{get_set_same, get_set_other}
@@ -21,6 +23,14 @@ on-ok-both (Err e) p q f = tt
 pub on-err-both : {T E P Q R : Type 0} (r : Result T E) → OnErr r P → OnErr r Q → (P → Q → R) → OnErr r R
 on-err-both (Ok x) p q f = tt
 on-err-both (Err e) p q f = f p q
+
+pub on-ok-three : {T E P Q R S : Type 0} (r : Result T E) → OnOk r P → OnOk r Q → OnOk r R → (P → Q → R → S) → OnOk r S
+on-ok-three (Ok x) p q t f = f p q t
+on-ok-three (Err e) p q t f = tt
+
+pub on-err-three : {T E P Q R S : Type 0} (r : Result T E) → OnErr r P → OnErr r Q → OnErr r R → (P → Q → R → S) → OnErr r S
+on-err-three (Ok x) p q t f = tt
+on-err-three (Err e) p q t f = f p q t
 
 -- what holds where a call went well and where it failed
 pub on-either : {T E P : Type 0} (r : Result T E) → OnOk r P → OnErr r P → P
@@ -50,32 +60,51 @@ sound-append : (items : List Item) (item : Item) → IsSoundItem item → AllByR
 sound-append [] item s h = (s, tt)
 sound-append (x ∷ items) item s h = (h.0, sound-append items item s h.1)
 
+-- how many bytes items take with one more behind or in front of them
+bytes-behind : (items : List Item) (item : Item) → bytes_of (items ++ item ∷ []) ≡ bytes_of items + length (item_bytes item)
+bytes-behind items item =
+    omega (arith, ap length (flat_map-append item_bytes items (item ∷ [])), length-append (items_bytes items) (item_bytes item ++ []), length-append (item_bytes item) [])
+
+pub bytes-in-front : (item : Item) (items : List Item) → bytes_of (item ∷ items) ≡ length (item_bytes item) + bytes_of items
+bytes-in-front item items = length-append (item_bytes item) (items_bytes items)
+
+pub no-bytes : (items : List Item) → length items ≡ 0 → bytes_of items ≤ 0
+no-bytes [] none = omega arith
+no-bytes (x ∷ items) none = absurd (omega (arith, none))
+
 -- a lane has one item more in front
 pub record Appends (lane new : Lane) (item : Item) : Type 0 where
   pub front : new.front.items ≡ lane.front.items ++ item ∷ []
   pub count : new.count ≡ lane.count + 1
   pub behind : new.behind ≡ lane.behind
 
-pub appended-lane : (lane new : Lane) (item : Item) (paged : Face) → IsLane (Some lane) paged → Appends lane new item → IsSoundItem item → length lane.front.items < 256 → IsLane (Some new) paged
-appended-lane lane new item paged l a sound room =
+pub appended-lane : (lane new : Lane) (item : Item) (paged : Face) → IsLane (Some lane) paged → Appends lane new item → IsSoundItem item → length lane.front.items < 256
+    → new.held ≡ lane.held + length (item_bytes item) → lane.held + length (item_bytes item) ≤ 8192 → IsLane (Some new) paged
+appended-lane lane new item paged l a sound room held most =
     let more : length new.front.items ≡ length lane.front.items + 1 = ap length a.front ∙ length-append lane.front.items (item ∷ []) in
+    let bytes : bytes_of new.front.items ≡ bytes_of lane.front.items + length (item_bytes item) = ap bytes_of a.front ∙ bytes-behind lane.front.items item in
     record {
       count = omega (arith, l.count, a.count, more);
       behind = a.behind ∙ l.behind;
       runs = l.runs;
       few = omega (arith, more, room);
+      held = omega (arith, l.held, bytes, held);
+      page = omega (arith, held, most);
       sound = subst (λ (xs : List Item). AllByRecursion IsSoundItem xs) (sym a.front) (sound-append lane.front.items item sound l.sound);
     }
 
 -- an item that wasn't put in front
-pub kept-lane : (lane new : Lane) (paged : Face) → IsLane (Some lane) paged → new.front.items ≡ lane.front.items → new.count ≡ lane.count → new.behind ≡ lane.behind → IsLane (Some new) paged
-kept-lane lane new paged l front count behind =
+pub kept-lane : (lane new : Lane) (paged : Face) → IsLane (Some lane) paged → new.front.items ≡ lane.front.items → new.held ≡ lane.held → new.count ≡ lane.count → new.behind ≡ lane.behind → IsLane (Some new) paged
+kept-lane lane new paged l front held count behind =
     let same : length new.front.items ≡ length lane.front.items = ap length front in
+    let bytes : bytes_of new.front.items ≡ bytes_of lane.front.items = ap bytes_of front in
     record {
       count = omega (arith, l.count, count, same);
       behind = behind ∙ l.behind;
       runs = l.runs;
       few = omega (arith, l.few, same);
+      held = omega (arith, l.held, bytes, held);
+      page = omega (arith, l.page, held);
       sound = subst (λ (xs : List Item). AllByRecursion IsSoundItem xs) (sym front) l.sound;
     }
 
@@ -86,16 +115,19 @@ appended-items front new items item e none =
 
 -- ---- an item behind the last in pages
 
-pub pushed-behind : (lane new : Lane) (time : ℕ) (paged after : Face) → IsLane (Some lane) paged → after ≡ pushed paged time → new.front.items ≡ lane.front.items → new.count ≡ lane.count + 1 → new.behind ≡ Some (unwrap_or lane.behind time)
+pub pushed-behind : (lane new : Lane) (time : ℕ) (paged after : Face) → IsLane (Some lane) paged → after ≡ pushed paged time → new.front.items ≡ lane.front.items → new.held ≡ lane.held → new.count ≡ lane.count + 1 → new.behind ≡ Some (unwrap_or lane.behind time)
     → IsLane (Some new) after
-pushed-behind lane new time paged after l e front count behind =
+pushed-behind lane new time paged after l e front held count behind =
     let more : after.count ≡ paged.count + 1 = ap (λ (f : Face). f.count) e in
     let same : length new.front.items ≡ length lane.front.items = ap length front in
+    let bytes : bytes_of new.front.items ≡ bytes_of lane.front.items = ap bytes_of front in
     record {
       count = omega (arith, l.count, more, count, same);
       behind = behind ∙ first-given lane.behind time ∙ ap (λ (o : Option ℕ). first_time_or o time) l.behind ∙ sym (ap (λ (f : Face). f.first) e);
       runs = ap (λ (f : Face). f.ended) e ∙ l.runs;
       few = omega (arith, l.few, same);
+      held = omega (arith, l.held, bytes, held);
+      page = omega (arith, l.page, held);
       sound = subst (λ (xs : List Item). AllByRecursion IsSoundItem xs) (sym front) l.sound;
     }
 
@@ -103,6 +135,8 @@ pushed-behind lane new time paged after l e front count behind =
 
 pub record Takes (lane new : Lane) (item : Item) : Type 0 where
   pub front : lane.front.items ≡ item ∷ new.front.items
+  pub held : bytes_of new.front.items ≤ new.held
+  pub less : new.held ≤ lane.held
   pub count : lane.count ≡ new.count + 1
   pub behind : new.behind ≡ lane.behind
   pub ended : new.ended ≡ lane.ended
@@ -121,6 +155,8 @@ taken-lane lane new item paged l t =
       behind = t.behind ∙ l.behind;
       runs = l.runs;
       few = omega (arith, l.few, less);
+      held = t.held;
+      page = omega (arith, l.page, t.less);
       sound = (subst (λ (xs : List Item). AllByRecursion IsSoundItem xs) t.front l.sound).1;
     }
 
@@ -157,6 +193,8 @@ popped-lane lane behind paged after l p e =
       behind = e;
       runs = p.ended ∙ l.runs;
       few = l.few;
+      held = l.held;
+      page = l.page;
       sound = l.sound;
     }
 

@@ -1,8 +1,10 @@
 -- Queues after the lane of one arc was written.
-use Rattle.std.proofs.Common.{◌≡◌, ◌≢◌, ℕ, zero, suc, ◌<◌, List, [], ◌∷◌, ◌++◌, Option, Some, None, length, refl, sym, ap, subst, ◌∙◌, inl, inr, arith}
+use Rattle.std.proofs.Common.{◌≡◌, ◌≢◌, ℕ, zero, suc, ◌<◌, ◌≤◌, List, [], ◌∷◌, ◌++◌, Option, Some, None, length, refl, sym, ap, subst, ◌∙◌, inl, inr, arith}
 use Rattle.std.proofs.Math.ListN.{set, get_or, length-set}
 use Rattle.std.proofs.lemmas.Bool.{cases_eq}
 use Rattle.std.proofs.lemmas.List.{set-get_or}
+use Rattle.std.proofs.lemmas.List.Sums.{sum_by-le}
+use Rattle.std.proofs.lemmas.Option.{slice_get-get_or}
 use Rattle.std.specs.Prelude.{is_some, slice_get}
 use Rattle.std.specs.List.{AllByRecursion}
 use Rattle.sq_item.specs.declared.Item.{Item}
@@ -10,7 +12,7 @@ use Rattle.sq_item.specs.SoundItems.{IsSoundItem}
 use Rattle.sq_outside.specs.Disks.{Pages}
 use Rattle.sq_paged.specs.Fronts.{Face}
 use Rattle.sq_paged.specs.Faces as pages
-use Rattle.sq_queue.specs.Faces.{front_at, size, items_on, no_face, IsEmpty, IsLane, Together}
+use Rattle.sq_queue.specs.Faces.{bytes_of, front_at, size, items_on, no_face, IsEmpty, IsLane, Together, IsBounded}
 use Rattle.sq_queue.specs.declared.Lane.{Lane}
 use Rattle.sq_queue.specs.declared.Queues.{Queues}
 use Rattle.sq_paged.specs.declared.Queues.{Queues as Paged}
@@ -84,6 +86,16 @@ taken-items q told r now arc lane new item inside was lanes own =
     let here : slice_get r.lanes.items arc ≡ Some new = ap (λ (ls : List Lane). slice_get ls arc) lanes ∙ get_set_same q.lanes.items arc new inside in
     ap (λ (o : Option Lane). front_at o ++ pages.paged_items_on q.paged told arc) was ∙ own ∙ ap (λ (o : Option Lane). item ∷ (front_at o ++ pages.paged_items_on r.paged now arc)) (sym here)
 
+-- what all fronts hold
+pub bounded : (q : Queues) (told : Option Pages) → Together q told → IsBounded q
+bounded q told g =
+    let lanes = q.lanes.items in
+    let each : (arc : ℕ) → bytes_of (front_at (slice_get lanes arc)) ≤ 8192 = λ arc. omega (arith, (g.lanes arc).held, (g.lanes arc).page) in
+    record {
+      each = each;
+      all = omega (arith, sum_by-le (λ (lane : Lane). bytes_of lane.front.items) 8192 lanes (λ arc lane inside. subst (λ (o : Option Lane). bytes_of (front_at o) ≤ 8192) (slice_get-get_or lanes arc lane inside) (each arc)));
+    }
+
 -- where nothing of an arc is said to be in pages, nothing is
 no-nodes : (q : Paged) (told : Option Pages) (arc : ℕ) → pages.PagedTogether q told → (pages.paged_face q arc).first ≡ None → pages.nodes_on q arc ≡ []
 no-nodes q told arc g none = by (pages.nodes_on q arc) refl
@@ -107,18 +119,21 @@ none-paged q told arc lane g was none =
 -- a lane more is read at its place, and all others as before
 pub empty-more : (lanes : List Lane) (lane : Lane) → IsEmpty (Some lane) → ((arc : ℕ) → IsEmpty (slice_get lanes arc)) → (arc : ℕ) → IsEmpty (slice_get (lanes ++ lane ∷ []) arc)
 empty-more [] lane here others zero = here
-empty-more [] lane here others (suc arc) = record { face = refl; front = refl; behind = refl }
+empty-more [] lane here others (suc arc) = record { face = refl; front = refl; behind = refl; held = refl }
 empty-more (x ∷ lanes) lane here others zero = others 0
 empty-more (x ∷ lanes) lane here others (suc arc) = empty-more lanes lane here (λ a. others (suc a)) arc
 
 empty-lane : (lane : Option Lane) (paged : Face) → IsEmpty lane → paged ≡ no_face → IsLane lane paged
 empty-lane lane paged e p =
     let none : length (front_at lane) ≡ 0 = ap length e.front in
+    let no_bytes : bytes_of (front_at lane) ≡ 0 = ap bytes_of e.front in
     record {
       count = omega (arith, ap (λ (f : Face). f.count) e.face, none, ap (λ (f : Face). f.count) p);
       behind = e.behind ∙ sym (ap (λ (f : Face). f.first) p);
       runs = ap (λ (f : Face). f.ended) p;
       few = omega (arith, none);
+      held = omega (arith, no_bytes);
+      page = omega (arith, e.held);
       sound = subst (λ (xs : List Item). AllByRecursion IsSoundItem xs) (sym e.front) tt;
     }
 

@@ -12,7 +12,7 @@ use crate::dropping::drop_told_in;
 use crate::recording::recorded_in;
 use crate::skipping::next_place;
 use crate::{AuditWhy, Verdict, Wanted};
-use sq_lines::append_output_line;
+use sq_lines::{Quoter, append_output_line};
 use sq_value::{Name, Tuple, same_bytes};
 use std::alloc::{AllocError, Global};
 use std::collections::BTreeSet;
@@ -80,13 +80,20 @@ fn output_of(outputs: &[Wanted], field: &[u8]) -> Option<usize>
     None
 }
 
+/// The line that is expected, in memory that is used again, and what writes the fields of it that stand in quotes.
+#[derive(Drop)]
+struct Expected {
+    text: Vec<u8>,
+    quoter: Quoter,
+}
+
 /// Whether a line is that of the tuple at a place.
 fn is_line_of(
     name: &Name,
     tuples: &[Tuple],
     at: usize,
     line: &[u8],
-    buffer: &mut Vec<u8>,
+    expected: &mut Expected,
 ) -> Result<bool, AllocError>
     ensures next { IfOk result (λ b. b ≡ is_line_of name.now (slice_get tuples.now at) line.now) }
     ensures inside { IfOk result (λ b. b ≡ true → at < length tuples.now) }
@@ -94,9 +101,9 @@ fn is_line_of(
     match tuples.get(at) {
         None => Ok(false),
         Some(t) => {
-            buffer.clear();
-            append_output_line(name, t, buffer)?;
-            Ok(same_bytes(line, buffer.as_slice()))
+            expected.text.clear();
+            append_output_line(name, t, &mut expected.quoter, &mut expected.text)?;
+            Ok(same_bytes(line, expected.text.as_slice()))
         }
     }
 }
@@ -118,7 +125,7 @@ fn place_behind(
     output: &Wanted,
     place: usize,
     line: &[u8],
-    buffer: &mut Vec<u8>,
+    expected: &mut Expected,
 ) -> Result<Option<usize>, AllocError>
     requires below { IsBelow (length sets.now) output.now }
     ensures next { IfOk result (λ p. (record_at : ℕ → List ℕ) (before : List (List ℕ)) → HoldRecord sets.now record_at → IsAtPlace record_at (map (λ t. t.items) streams.now) output.now place before
@@ -128,7 +135,7 @@ fn place_behind(
 {
     let tuples = stream_in(streams, output.stream);
     let at = next_place(sets, output.above, tuples, place);
-    if is_line_of(&output.name, tuples, at, line, buffer)? {
+    if is_line_of(&output.name, tuples, at, line, expected)? {
         return Ok(Some(at + 1));
     }
     Ok(None)
@@ -142,7 +149,7 @@ fn output_fault(
     places: &mut Vec<usize>,
     i: usize,
     line: &[u8],
-    buffer: &mut Vec<u8>,
+    expected: &mut Expected,
 ) -> Result<Option<AuditWhy>, AllocError>
     requires inside { i < length places.old.items }
     requires below { IsBelow (length sets.now) output.now }
@@ -157,7 +164,7 @@ fn output_fault(
     ensures miss { (j : ℕ) → j ≢ i → slice_index places.new.items j ≡ slice_index places.old.items j }
 {
     let place = places[i];
-    match place_behind(sets, streams, output, place, line, buffer)? {
+    match place_behind(sets, streams, output, place, line, expected)? {
         Some(behind) => {
             places[i] = behind;
             Ok(None)
@@ -184,7 +191,7 @@ fn class_fault(
     found: Option<(u64, u64)>,
     places: &mut Vec<usize>,
     line: &[u8],
-    buffer: &mut Vec<u8>,
+    expected: &mut Expected,
 ) -> Result<Option<AuditWhy>, AllocError>
     requires found { found ≡ drop_told_in (length most.now.items) line.now }
     requires inside { IfSome found (λ d. d.0 < length most.now.items) }
@@ -202,7 +209,7 @@ fn class_fault(
     let (field, _) = cut_field(line);
     match output_of(outputs, field) {
         None => Ok(word_fault(most, found, field, line)),
-        Some(i) => output_fault(sets, streams, &outputs[i], places, i, line, buffer),
+        Some(i) => output_fault(sets, streams, &outputs[i], places, i, line, expected),
     }
 }
 
@@ -236,7 +243,7 @@ fn step(
     outputs: &[Wanted],
     walk: &mut Walk,
     line: &[u8],
-    buffer: &mut Vec<u8>,
+    expected: &mut Expected,
 ) -> Result<Option<AuditWhy>, AllocError>
     requires below { All (IsBelow (length sets.now)) outputs.now }
     requires most { length walk.old.most.items ≡ length sets.now }
@@ -254,7 +261,7 @@ fn step(
     if walk.ended {
         return Ok(Some(AuditWhy::End));
     }
-    let found = drop_told_in(sets.len() as u64, line, buffer)?;
+    let found = drop_told_in(sets.len() as u64, line, &mut expected.text)?;
     let fault = class_fault(
         sets,
         streams,
@@ -263,7 +270,7 @@ fn step(
         found,
         &mut walk.places,
         line,
-        buffer,
+        expected,
     )?;
     note_drop(&mut walk.most, found);
     walk.ended = is_end(line);
@@ -359,11 +366,14 @@ fn walk_text(
     ensures { IfOk result (λ v. v ≡ verdict_of outputs.now (map (λ t. t.items) streams.now) (length sets.now) text.now) }
 {
     let mut walk = new_walk(alloc, sets.len(), outputs.len())?;
-    let mut buffer = Vec::new(alloc);
+    let mut expected = Expected {
+        text: Vec::new(alloc),
+        quoter: Quoter::new(),
+    };
     let mut number = 0u64;
     let mut left = text;
     while let Some((line, rest)) = cut_line(left) {
-        let fault = step(sets, streams, outputs, &mut walk, line, &mut buffer)?;
+        let fault = step(sets, streams, outputs, &mut walk, line, &mut expected)?;
         number += 1;
         left = rest;
         if let Some(why) = fault {

@@ -10,5 +10,5 @@ loop-arc-preserved c =
     record {
       len = search rules;
       empty = subst (λ (ls : List Lane). (arc : ℕ) → IsEmpty (slice_get ls arc)) (sym c.in_ok-push.ensures.items)
-          (empty-more c.loop-arc.lanes.items _ (record { face = search rules; front = c.new.ensures.items; behind = refl }) c.loop-arc.invariant.empty);
+          (empty-more c.loop-arc.lanes.items _ (record { face = search rules; front = c.new.ensures.items; behind = refl; held = refl }) c.loop-arc.invariant.empty);
     }

@@ -12,4 +12,4 @@ returns-clause-together c told g =
     let new : Lane = record lane { ended = true } in
     written-together q told (record q { lanes = with_item q.lanes c.args.arc new }) told c.args.arc lane new g g.paged refl c.requires
     (slice_get_read q.lanes.items _ c.args.arc lane refl c.requires c.index_mut.ensures.value) refl (λ other differ. refl)
-    (λ own. record { count = own.count; behind = own.behind; runs = own.runs; few = own.few; sound = own.sound })
+    (λ own. record { count = own.count; behind = own.behind; runs = own.runs; few = own.few; held = own.held; page = own.page; sound = own.sound })

@@ -112,6 +112,20 @@ take_first-requires-clause-counted g c =
     let own = own-lane q _ arc lane c.requires.together (slice_get_read q.lanes.items _ arc lane refl c.requires.there c.index_mut-lane.ensures.value) in
     front-counted lane (pages.paged_face q.paged arc) own
 
+pub take_first-requires-clause-sound : goal.take_first-requires-clause-sound
+take_first-requires-clause-sound g c =
+    let q = c.args.self.now in
+    let arc = c.args.arc in
+    let lane = c.index_mut-lane.result.now in
+    (own-lane q _ arc lane c.requires.together (slice_get_read q.lanes.items _ arc lane refl c.requires.there c.index_mut-lane.ensures.value)).sound
+
+pub take_first-requires-clause-held : goal.take_first-requires-clause-held
+take_first-requires-clause-held g c =
+    let q = c.args.self.now in
+    let arc = c.args.arc in
+    let lane = c.index_mut-lane.result.now in
+    (own-lane q _ arc lane c.requires.together (slice_get_read q.lanes.items _ arc lane refl c.requires.there c.index_mut-lane.ensures.value)).held
+
 pub returns-clause-sound : goal.returns-clause-sound
 returns-clause-sound g c =
     let q = c.args.self.now in
@@ -119,7 +133,7 @@ returns-clause-sound g c =
     let lane = c.index_mut-lane.result.now in
     let new = c.take_first.new.self in
     let was = slice_get_read q.lanes.items _ arc lane refl c.requires.there c.index_mut-lane.ensures.value in
-    let takes : Takes lane new c.take_first.result = record { front = c.take_first.ensures.front; count = c.take_first.ensures.count; behind = c.take_first.ensures.behind; ended = c.take_first.ensures.ended } in
+    let takes : Takes lane new c.take_first.result = record { front = c.take_first.ensures.front; held = c.take_first.ensures.held; less = c.take_first.ensures.less; count = c.take_first.ensures.count; behind = c.take_first.ensures.behind; ended = c.take_first.ensures.ended } in
     taken-sound lane new c.take_first.result (pages.paged_face q.paged arc) (own-lane q _ arc lane c.requires.together was) takes
 
 pub returns-clause-faces : goal.returns-clause-faces
@@ -183,7 +197,7 @@ returns-clause-face g c =
     let lane = c.index_mut-lane.result.now in
     let new = c.take_first.new.self in
     let was = slice_get_read q.lanes.items _ arc lane refl c.requires.there c.index_mut-lane.ensures.value in
-    let takes : Takes lane new c.take_first.result = record { front = c.take_first.ensures.front; count = c.take_first.ensures.count; behind = c.take_first.ensures.behind; ended = c.take_first.ensures.ended } in
+    let takes : Takes lane new c.take_first.result = record { front = c.take_first.ensures.front; held = c.take_first.ensures.held; less = c.take_first.ensures.less; count = c.take_first.ensures.count; behind = c.take_first.ensures.behind; ended = c.take_first.ensures.ended } in
     let popped = taken-face lane new c.take_first.result (pages.paged_face q.paged arc) (own-lane q _ arc lane c.requires.together was) (c.requires.together.paged.lanes arc).first takes in
     subst (λ (o : Option Lane). IsPopped (face q arc) (face_at o)) (sym (get_set_same q.lanes.items arc new c.requires.there)) (subst (λ (o : Option Lane). IsPopped (face_at o) (face_at (Some new))) (sym was) popped)
 
@@ -193,7 +207,7 @@ returns-clause-together g c =
     let arc = c.args.arc in
     let lane = c.index_mut-lane.result.now in
     let new = c.take_first.new.self in
-    let takes : Takes lane new c.take_first.result = record { front = c.take_first.ensures.front; count = c.take_first.ensures.count; behind = c.take_first.ensures.behind; ended = c.take_first.ensures.ended } in
+    let takes : Takes lane new c.take_first.result = record { front = c.take_first.ensures.front; held = c.take_first.ensures.held; less = c.take_first.ensures.less; count = c.take_first.ensures.count; behind = c.take_first.ensures.behind; ended = c.take_first.ensures.ended } in
     let r : Queues = record q { lanes = with_item q.lanes arc new } in
     written-together q _ r _ arc lane new c.requires.together c.requires.together.paged refl c.requires.there
     (slice_get_read q.lanes.items _ arc lane refl c.requires.there c.index_mut-lane.ensures.value) refl (λ other differ. refl)

@@ -159,4 +159,4 @@ returns-clause-together g c =
     let r : Queues = record { lanes = with_item q.lanes arc new; paged = c.push.new.self } in
     written-together q _ r _ arc lane new c.requires.together c.in-Ok.ensures.together c.in-Ok.ensures.size c.requires.there
     (slice_get_read q.lanes.items _ arc lane refl c.requires.there c.index_mut-lane.ensures.value) refl c.in-Ok.ensures.faces
-    (λ own. pushed-behind lane new c.args.item.now.time (pages.paged_face q.paged arc) (pages.paged_face c.push.new.self arc) own c.in-Ok.ensures.face refl c.in-Some.ensures.1 (ap (λ (n : ℕ). Some n) c.unwrap_or.ensures))
+    (λ own. pushed-behind lane new c.args.item.now.time (pages.paged_face q.paged arc) (pages.paged_face c.push.new.self arc) own c.in-Ok.ensures.face refl refl c.in-Some.ensures.1 (ap (λ (n : ℕ). Some n) c.unwrap_or.ensures))

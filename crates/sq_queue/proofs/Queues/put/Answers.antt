@@ -4,11 +4,16 @@ use Rattle.std.proofs.lemmas.Option.{slice_get_read}
 use Rattle.std.proofs.lemmas.Result.{on_ok_weaker, on_err_weaker}
 use Rattle.std.specs.Vec.{with_item}
 use Rattle.sq_paged.specs.Faces as pages
-use Rattle.sq_queue.specs.Faces.{behind_at, front_at}
+use Rattle.sq_queue.specs.Faces.{behind_at, front_at, held_at}
 use Rattle.sq_queue.specs.declared.Queues.{Queues}
-use Rattle.sq_queue.proofs.LaneLemmas.{on-ok-both, on-err-both, on-either, appended-lane, appended-items, kept-lane, kept-face, other-face, pushed-face, face-appended}
+use Rattle.sq_queue.proofs.LaneLemmas.{on-ok-both, on-err-both, on-ok-three, on-err-three, on-either, appended-lane, appended-items, kept-lane, kept-face, other-face, pushed-face, face-appended}
 use Rattle.sq_queue.proofs.TogetherLemmas.{written-together, written-items, other-items, kept-items, none-paged}
 use Rattle.sq_queue.proofs.Queues.put.Goals as goal
+
+pub append-requires : goal.append-requires
+append-requires c =
+    let was = slice_get_read c.args.self.now.lanes.items _ c.args.arc c.index_mut.result.now refl c.requires.there c.index_mut.ensures.value in
+    omega (arith, ap held_at was, c.requires.room.2)
 
 pub returns-clause-face : goal.returns-clause-face
 returns-clause-face c =
@@ -51,12 +56,15 @@ returns-clause-together c = λ told together.
     let new = c.append.new.self in
     let r : Queues = record q { lanes = with_item q.lanes c.args.arc new } in
     let was = slice_get_read q.lanes.items _ c.args.arc lane refl c.requires.there c.index_mut.ensures.value in
-    let room = ap (λ o. length (front_at o)) was in
+    let few = ap (λ o. length (front_at o)) was in
+    let held = ap held_at was in
     written-together q told r told c.args.arc lane new together together.paged refl c.requires.there was refl (λ other differ. refl) (λ own.
     on-either c.append.result
-    (on-ok-both c.append.result c.append.ensures.front c.append.ensures.count (λ front count.
-    appended-lane lane new c.args.item (pages.paged_face q.paged c.args.arc) own (record { front = front; count = count; behind = c.append.ensures.behind }) c.requires.sound (omega (arith, room, c.requires.room.1))))
-    (on-err-both c.append.result c.append.ensures.front_err c.append.ensures.count_err (λ front count. kept-lane lane new (pages.paged_face q.paged c.args.arc) own front count c.append.ensures.behind)))
+    (on-ok-three c.append.result c.append.ensures.front c.append.ensures.held c.append.ensures.count (λ front more count.
+    appended-lane lane new c.args.item (pages.paged_face q.paged c.args.arc) own (record { front = front; count = count; behind = c.append.ensures.behind }) c.requires.sound (omega (arith, few, c.requires.room.1))
+    (omega (arith, more, c.requires.bytes)) (omega (arith, held, c.requires.bytes, c.requires.room.2))))
+    (on-err-three c.append.result c.append.ensures.front_err c.append.ensures.held_err c.append.ensures.count_err (λ front same count.
+    kept-lane lane new (pages.paged_face q.paged c.args.arc) own front same count c.append.ensures.behind)))
 
 pub returns-clause-face_err : goal.returns-clause-face_err
 returns-clause-face_err c =

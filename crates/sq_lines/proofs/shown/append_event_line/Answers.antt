@@ -1,5 +1,5 @@
 use Rattle.sq_lines.proofs.ShownLemmas.{err_none}
-use Rattle.sq_lines.proofs.shown.event_line.Goals as goal
+use Rattle.sq_lines.proofs.shown.append_event_line.Goals as goal
 
 pub returns-in-Line-clause-err : goal.returns-in-Line-clause-err
 returns-in-Line-clause-err c = err_none c.append_output_line.result _ _ _ c.append_output_line.ensures.err
