@@ -1,5 +1,6 @@
 use Rattle.std.proofs.Common.{◌≡◌, ℕ, ◌<◌, ◌≤◌, length, refl, sym, ◌∙◌, subst, arith}
 use Rattle.sq_flow.specs.Readiness.{IsReady, Took}
+use Rattle.sq_flow.specs.declared.engine.Engine.{Engine}
 use Rattle.sq_flow.specs.declared.flow.Flow.{Flow}
 use Rattle.sq_flow.specs.Engines.{seat_number}
 use Rattle.sq_flow.specs.Stepping.{stage, TrainOk}
@@ -12,7 +13,7 @@ returns-in-Ok-clause-ok g c =
     let train = c.in-Ok.ensures.ok in
     let did = train.moves in
     let looked = c.look_at_readers.ensures.flow ∙ c.look_at.ensures.flow in
-    let removed = record { flow = c.train.new.self; ready = c.remove.new.self; waits = a.waits; failed = a.failed } in
+    let removed : Engine g.row.O.Denot = record { flow = c.train.new.self; ready = c.remove.new.self; waits = a.waits; failed = a.failed } in
     let low : c.args.pick.actor < a.ready.actors = c.requires.engine.below c.args.pick.actor c.requires.ready in
     let many = c.requires.engine.room.actors in
     let listed = (c.requires.engine.exact c.args.pick.actor (omega (arith, low, many))).listed c.requires.ready in
