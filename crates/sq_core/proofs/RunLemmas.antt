@@ -205,42 +205,6 @@ module _ (was is : Option Pages) (e e' : Engine) (events events' : List Event) (
         turns = λ is-much. (let most = much.turns is-much told (batch_level r) agrees a.holds in let all = a.turns in omega (arith, most, all));
       }
 
--- ---- the clauses of a step
-
-module _ {T : Type 0} (was is : Option Pages) (e e' : Engine) (events events' : List Event) (before after : ℕ) (same : e'.network ≡ e.network) (answer : Result T RunErr) where
-  pub run-clause : OnOk answer (Stepped actors was is e.engine.flow e'.engine.flow events events') → OnOk answer (IsEngine actors e'.engine) → OnOk answer (CostsFed actors e.engine.flow e'.engine.flow before after)
-      → OnOk answer ((r : Replay) (history : List Event) (begun : ℕ) → IsRun r was e (history ++ events) begun before → IsRun r is e' (history ++ events') begun after)
-  run-clause = by answer
-    where
-      by : (o : Result T RunErr) → OnOk o (Stepped actors was is e.engine.flow e'.engine.flow events events') → OnOk o (IsEngine actors e'.engine) → OnOk o (CostsFed actors e.engine.flow e'.engine.flow before after)
-          → OnOk o ((r : Replay) (history : List Event) (begun : ℕ) → IsRun r was e (history ++ events) begun before → IsRun r is e' (history ++ events') begun after)
-      by (Ok p) stepped engine cost = run-after was is e e' events events' same stepped engine before after cost
-      by (Err err) stepped engine cost = _
-
-  pub shows-clause : OnOk answer (Stepped actors was is e.engine.flow e'.engine.flow events events') → OnOk answer (IsEngine actors e'.engine) → IsSoundEngine e
-      → OnOk answer (AllByRecursion (IsEventIn (length e.network.outputs) (drops_in e.network)) events → AllByRecursion (IsEventIn (length e.network.outputs) (drops_in e.network)) events')
-  shows-clause stepped engine sound = by answer stepped engine
-    where
-      by : (o : Result T RunErr) → OnOk o (Stepped actors was is e.engine.flow e'.engine.flow events events') → OnOk o (IsEngine actors e'.engine)
-          → OnOk o (AllByRecursion (IsEventIn (length e.network.outputs) (drops_in e.network)) events → AllByRecursion (IsEventIn (length e.network.outputs) (drops_in e.network)) events')
-      by (Ok p) stepped engine = shows-after was is e e' events events' same stepped engine sound
-      by (Err err) stepped engine = _
-
-  pub stopped-clause : (honest : Bool) → (Tells is → Tells was) → OnErr answer (ShowsPrefix actors was is e.engine.flow e'.engine.flow.levels events events') → OnErr answer (PlansPrefix e.engine.flow e'.engine.flow.levels events events')
-      → OnErr answer (StepCosts actors was is e.engine.flow e'.engine.flow.levels before after)
-      → IfErr answer (NoneStrange actors honest was is e.engine.flow e'.engine.flow.levels) → IfErr answer (TooMuchOnly actors was is e.engine.flow e'.engine.flow)
-      → IfErr answer (λ err. Tells is → (r : Replay) (history : List Event) (begun : ℕ) → IsRun r was e (history ++ events) begun before
-      → Stopped honest r (history ++ events') begun after err)
-  stopped-clause honest tells prefix planned cost strange much = by answer prefix planned cost strange much
-    where
-      by : (o : Result T RunErr) → OnErr o (ShowsPrefix actors was is e.engine.flow e'.engine.flow.levels events events') → OnErr o (PlansPrefix e.engine.flow e'.engine.flow.levels events events')
-          → OnErr o (StepCosts actors was is e.engine.flow e'.engine.flow.levels before after)
-          → IfErr o (NoneStrange actors honest was is e.engine.flow e'.engine.flow.levels) → IfErr o (TooMuchOnly actors was is e.engine.flow e'.engine.flow)
-          → IfErr o (λ err. Tells is → (r : Replay) (history : List Event) (begun : ℕ) → IsRun r was e (history ++ events) begun before
-          → Stopped honest r (history ++ events') begun after err)
-      by (Ok p) prefix planned cost strange much = _
-      by (Err err) prefix planned cost strange much = stopped-after was is e e' events events' same honest tells before after err prefix planned cost strange much
-
 -- ---- at any time
 
 pub shown-so-far : (e : Engine) (r : Replay) (pages : Option Pages) (history : List Event) (begun steps : ℕ) → Tells pages

@@ -51,12 +51,13 @@ impl Drop for Engine {
 }
 
 impl Engine {
-    ghost use Rattle.sq_flow.specs.Flows.{FailsAt, HoldsItems, Stepped, decisions_left, items_in, lines_left, measure_of};
+    ghost use Rattle.sq_flow.specs.Flows.{HoldsItems, decisions_left, items_in, lines_left};
     ghost use Rattle.sq_flow.specs.Plans.{plans_left};
-    ghost use Rattle.sq_flow.specs.Readiness.{IsReady, FallsBy, Took};
-    ghost use Rattle.sq_flow.specs.Engines.{seat_number, listed_after, AllDone};
+    ghost use Rattle.sq_flow.specs.Engines.{AllDone};
+    ghost use Rattle.sq_flow.specs.Stepping.{Keeps, stage};
     ghost use Rattle.sq_core.specs.Meanings.{actors};
-    ghost use Rattle.sq_core.specs.Runs.{IsSoundEngine, IsRun, ShownSoFar, Stopped, ShownAll, fed_at, late_at_seat};
+    ghost use Rattle.sq_core.specs.Runs.{IsSoundEngine, IsRun, ShownSoFar, ShownAll, fed_at, late_at_seat};
+    ghost use Rattle.sq_core.specs.Steps.{RunFails, RunsOn};
 
     /// An engine that has released nothing yet of what the sources recorded, one list for each source. `seed` is that of the
     /// draws; `frames` is how many pages the queues may keep in memory.
@@ -130,36 +131,17 @@ impl Engine {
         requires ready { contains_number self.old.engine.ready.list pick.actor ≡ true }
         requires some { 1 ≤ pick.train }
         ensures network { self.new.network ≡ self.old.network }
-        ensures sound { OnOk result (IsSoundEngine self.new) }
-        ensures together { OnOk result (Together self.new.engine.flow.queues (known (D.log disk.new))) }
-        ensures later { IsLater (D.log disk.old) (D.log disk.new) }
-        ensures faults { D.faults disk.old ≤ D.faults disk.new }
-        ensures cause { IfErr result (IsCauseIn self.new.engine.flow (D.log disk.old) (D.log disk.new) (D.faults disk.old) (D.faults disk.new)) }
-        ensures feed { IfErr result (FailsAt actors (D.log disk.old) (D.log disk.new) self.old.engine.flow self.new.engine.flow events.old.items) }
-        ensures run { OnOk result ((r : Replay) (history : List Event) (begun : ℕ)
-            → IsRun r (known (D.log disk.old)) self.old (history ++ events.old.items) begun steps.old
-            → IsRun r (known (D.log disk.new)) self.new (history ++ events.new.items) begun steps.new) }
-        ensures goes { OnOk result (Stepped actors (known (D.log disk.old)) (known (D.log disk.new))
-            self.old.engine.flow self.new.engine.flow events.old.items events.new.items) }
-        ensures stopped { IfErr result (λ e. Tells (known (D.log disk.new)) → (r : Replay) (history : List Event) (begun : ℕ)
-            → IsRun r (known (D.log disk.old)) self.old (history ++ events.old.items) begun steps.old
-            → Stopped (D.log disk.old).honest r (history ++ events.new.items) begun steps.new e) }
-        ensures counted { IfErr result (λ e. e ≡ RunErr.TooMuch → 2 ^ 62 ≤ self.new.engine.flow.taken + 2) }
-        ensures failed { OnErr result (self.new.engine.failed ≡ true) }
-        ensures shows { OnOk result (AllByRecursion (IsEventIn (length self.old.network.outputs) (drops_in self.old.network)) events.old.items
-            → AllByRecursion (IsEventIn (length self.old.network.outputs) (drops_in self.old.network)) events.new.items) }
-        ensures order { OnOk result (self.new.engine.ready.list ≡ listed_after self.new.engine.flow self.old.engine.ready.list pick.actor) }
-        ensures measure { IfOk result (λ p. FallsBy p.fed p.finished (measure_of self.old.engine.flow) (measure_of self.new.engine.flow)) }
-        ensures works { IfOk result (λ p. (p.fed ≡ 0) → p.finished ≡ true) }
-        ensures most { IfOk result (λ p. p.fed ≤ pick.train) }
-        ensures stops { IfOk result (λ p. (p.fed ≡ pick.train)
-            ⊎ ((p.finished ≡ true) ⊎ (IsReady self.new.engine.flow (seat_number (length self.new.engine.flow.seats.items) pick.actor) → ⊥))) }
-        ensures stay { IsPrefixOf events.old.items events.new.items }
-        ensures took { IfOk result (λ p. Took (seat_number (length self.old.engine.flow.seats.items) pick.actor) p.fed p.finished
-            self.old.engine.flow self.new.engine.flow) }
-        ensures frames { OnOk result (faces.frames self.new.engine.flow.queues ≡ faces.frames self.old.engine.flow.queues) }
+        ensures keeps { Keeps (stage D.PageDisk self.old.engine.flow disk.old events.old.items steps.old)
+            (stage D.PageDisk self.new.engine.flow disk.new events.new.items steps.new) }
+        ensures ok { IfOk result (RunsOn pick (stage D.PageDisk self.old.engine.flow disk.old events.old.items steps.old)
+            (stage D.PageDisk self.new.engine.flow disk.new events.new.items steps.new) self.old self.new) }
+        ensures err { IfErr result (RunFails (stage D.PageDisk self.old.engine.flow disk.old events.old.items steps.old)
+            (stage D.PageDisk self.new.engine.flow disk.new events.new.items steps.new) self.old self.new) }
     {
-        self.engine.step(pick, disk, events, steps)
+        match self.engine.step(pick, disk, events, steps) {
+            Ok(progress) => Ok(progress),
+            Err(e) => Err(e),
+        }
     }
 
     /// Running as long as an actor isn't finished, and then the ready list isn't empty; done where all are; failed after an

@@ -116,13 +116,13 @@ impl<O: Operator + Drop> Flow<O> {
 }
 
 impl<O: Operator + Drop> Engine<O> {
-    ghost use Rattle.sq_flow.specs.Flows.{IsFlow, Stepped, ShowsPrefix, NoneStrange, measure_of, HoldsItems, items_in, lines_left, decisions_left};
-    ghost use Rattle.sq_flow.specs.Flows.{fed_at_last, RiseFrom, tuples_to_come, CostsFed, StepCosts, TooMuchOnly, FailsAt, lost_at_last};
+    ghost use Rattle.sq_flow.specs.Flows.{IsFlow, HoldsItems, items_in, lines_left, decisions_left};
+    ghost use Rattle.sq_flow.specs.Flows.{fed_at_last, RiseFrom, tuples_to_come, lost_at_last};
     ghost use Rattle.sq_flow.specs.Flows.{work_at_last, taken_in_all};
-    ghost use Rattle.sq_flow.specs.Plans.{PlansPrefix, IsPlanned, arrivals, last_arrival, plans_left};
-    ghost use Rattle.sq_flow.specs.Causes.{IsCauseIn};
-    ghost use Rattle.sq_flow.specs.Readiness.{IsReady, FallsBy, Took};
-    ghost use Rattle.sq_flow.specs.Engines.{IsEngine, HasSeats, Looked, AllDone, newly_ready, listed_after, readers_of};
+    ghost use Rattle.sq_flow.specs.Plans.{IsPlanned, arrivals, last_arrival, plans_left};
+    ghost use Rattle.sq_flow.specs.Stepping.{stage, StepErr};
+    ghost use Rattle.sq_flow.specs.EngineSteps.{EngineOk};
+    ghost use Rattle.sq_flow.specs.Engines.{IsEngine, HasSeats, Looked, AllDone, newly_ready, readers_of};
     ghost use Rattle.sq_flow.specs.Seats.{taken_at, lost_at, holds_at};
     ghost use Rattle.sq_flow.specs.Starts.{IsNewSeat, IsNewFlow};
     ghost use Rattle.sq_flow.specs.Wiring.{net_of, IsOwn, IsShaped};
@@ -221,32 +221,11 @@ impl<O: Operator + Drop> Engine<O> {
         requires together { Together self.old.flow.queues (known (D.log disk.old)) }
         requires ready { contains_number self.old.ready.list pick.actor ≡ true }
         requires some { 1 ≤ pick.train }
-        ensures ok { OnOk result (Stepped O.Operator (known (D.log disk.old)) (known (D.log disk.new))
-            self.old.flow self.new.flow events.old.items events.new.items) }
-        ensures engine { OnOk result (IsEngine O.Operator self.new) }
-        ensures order { OnOk result (self.new.ready.list ≡ listed_after self.new.flow self.old.ready.list pick.actor) }
-        ensures prefix { OnErr result (ShowsPrefix O.Operator (known (D.log disk.old)) (known (D.log disk.new))
-            self.old.flow self.new.flow.levels events.old.items events.new.items) }
-        ensures plans { OnErr result (PlansPrefix self.old.flow self.new.flow.levels events.old.items events.new.items) }
-        ensures strange { IfErr result (λ e. NoneStrange O.Operator (D.log disk.old).honest (known (D.log disk.old)) (known (D.log disk.new))
-            self.old.flow self.new.flow.levels e) }
-        ensures cause { IfErr result (IsCauseIn self.new.flow (D.log disk.old) (D.log disk.new) (D.faults disk.old) (D.faults disk.new)) }
-        ensures feed { IfErr result (FailsAt O.Operator (D.log disk.old) (D.log disk.new) self.old.flow self.new.flow events.old.items) }
-        ensures faults { D.faults disk.old ≤ D.faults disk.new }
-        ensures later { IsLater (D.log disk.old) (D.log disk.new) }
+        ensures ok { IfOk result (EngineOk O.Operator pick (stage D.PageDisk self.old.flow disk.old events.old.items steps.old)
+            (stage D.PageDisk self.new.flow disk.new events.new.items steps.new) self.old self.new) }
+        ensures err { IfErr result (StepErr O.Operator (stage D.PageDisk self.old.flow disk.old events.old.items steps.old)
+            (stage D.PageDisk self.new.flow disk.new events.new.items steps.new)) }
         ensures failed { OnErr result (self.new.failed ≡ true) }
-        ensures closes { (table : ℕ → ℕ → ℕ) → AgreesWith self.new.flow.levels table → AgreesWith self.old.flow.levels table }
-        ensures cost { OnOk result (CostsFed O.Operator self.old.flow self.new.flow steps.old steps.new) }
-        ensures cost_err { OnErr result (StepCosts O.Operator (known (D.log disk.old)) (known (D.log disk.new))
-            self.old.flow self.new.flow.levels steps.old steps.new) }
-        ensures too_much { IfErr result (λ e. TooMuchOnly O.Operator (known (D.log disk.old)) (known (D.log disk.new)) self.old.flow self.new.flow e) }
-        ensures measure { IfOk result (λ p. FallsBy p.fed p.finished (measure_of self.old.flow) (measure_of self.new.flow)) }
-        ensures works { IfOk result (λ p. (p.fed ≡ 0) → p.finished ≡ true) }
-        ensures most { IfOk result (λ p. p.fed ≤ pick.train) }
-        ensures stops { IfOk result (λ p. (p.fed ≡ pick.train)
-            ⊎ ((p.finished ≡ true) ⊎ (IsReady self.new.flow (seat_number (length self.new.flow.seats.items) pick.actor) → ⊥))) }
-        ensures stay { IsPrefixOf events.old.items events.new.items }
-        ensures took { IfOk result (λ p. Took (seat_number (length self.old.flow.seats.items) pick.actor) p.fed p.finished self.old.flow self.new.flow) }
     {
         let place = seat_number(self.flow.wires.replay, pick.actor);
         self.ready.remove(pick.actor);

@@ -140,13 +140,12 @@ fn end_arcs(wires: &Wires, queues: &mut Queues, actor: u32)
 }
 
 impl<O: Operator + Drop> Flow<O> {
-    ghost use Rattle.sq_flow.specs.Flows.{IsFlow, Stepped, ShowsPrefix, NoneStrange, CostsFed, StepCosts, TooMuchOnly, taken_in_all, to_release, measure_of};
-    ghost use Rattle.sq_flow.specs.Plans.{PlansPrefix};
-    ghost use Rattle.sq_flow.specs.Causes.{IsCauseIn, IsFeedCause};
+    ghost use Rattle.sq_flow.specs.Flows.{IsFlow, Stepped, taken_in_all, to_release, measure_of};
     ghost use Rattle.sq_flow.specs.Readiness.{TouchesOnly, Took};
     ghost use Rattle.sq_flow.specs.Wiring.{arcs_read};
     ghost use Rattle.sq_heads.specs.Heads.{NextUpTo};
     ghost use Rattle.sq_flow.specs.Seats.{done_at};
+    ghost use Rattle.sq_flow.specs.Stepping.{stage, StepOk, StepErr};
 
     /// Feeds an operator the first item of an arc.
     #[inline(always)]
@@ -167,25 +166,11 @@ impl<O: Operator + Drop> Flow<O> {
         requires head { (time : ℕ) × NextUpTo (arcs_read self.old.wires actor)
             (λ a. (face self.old.queues a).first) (λ a. (face self.old.queues a).ended) (length (arcs_read self.old.wires actor)) (Next.Feed time port arc) }
         requires running { done_at self.old.over (slice_get self.old.seats.items actor) ≡ false }
-        ensures ok { OnOk result (Stepped O.Operator (known (D.log disk.old)) (known (D.log disk.new)) self.old self.new events.old.items events.new.items) }
+        ensures ok { OnOk result (StepOk O.Operator actor Did.Fed (stage D.PageDisk self.old disk.old events.old.items steps.old)
+            (stage D.PageDisk self.new disk.new events.new.items steps.new)) }
         ensures whole { OnOk result (failed.new ≡ None) }
-        ensures prefix { OnErr result (ShowsPrefix O.Operator (known (D.log disk.old)) (known (D.log disk.new))
-            self.old self.new.levels events.old.items events.new.items) }
-        ensures plans { OnErr result (PlansPrefix self.old self.new.levels events.old.items events.new.items) }
-        ensures strange { IfErr result (λ e. NoneStrange O.Operator (D.log disk.old).honest (known (D.log disk.old)) (known (D.log disk.new))
-            self.old self.new.levels e) }
-        ensures cause { IfErr result (IsCauseIn self.new (D.log disk.old) (D.log disk.new) (D.faults disk.old) (D.faults disk.new)) }
-        ensures feed { IfErr result (IsFeedCause self.old self.new (D.log disk.old) (D.log disk.new)) }
-        ensures faults { D.faults disk.old ≤ D.faults disk.new }
-        ensures later { IsLater (D.log disk.old) (D.log disk.new) }
-        ensures touches { OnOk result (TouchesOnly actor self.old self.new) }
-        ensures cost { OnOk result (CostsFed O.Operator self.old self.new steps.old steps.new) }
-        ensures cost_err { OnErr result (StepCosts O.Operator (known (D.log disk.old)) (known (D.log disk.new)) self.old self.new.levels steps.old steps.new) }
-        ensures too_much { IfErr result (λ e. TooMuchOnly O.Operator (known (D.log disk.old)) (known (D.log disk.new)) self.old self.new e) }
-        ensures closes { (table : ℕ → ℕ → ℕ) → AgreesWith self.new.levels table → AgreesWith self.old.levels table }
-        ensures measure { OnOk result (measure_of self.new + 1 ≤ measure_of self.old) }
-        ensures stay { IsPrefixOf events.old.items events.new.items }
-        ensures took { OnOk result (Took actor 1 false self.old self.new) }
+        ensures err { IfErr result (StepErr O.Operator (stage D.PageDisk self.old disk.old events.old.items steps.old)
+            (stage D.PageDisk self.new disk.new events.new.items steps.new)) }
     {
         let at = self.wires.arc(arc);
         let place = self.seats[actor as usize].tally.place;
@@ -229,24 +214,11 @@ impl<O: Operator + Drop> Flow<O> {
         requires head { NextUpTo (arcs_read self.old.wires actor)
             (λ a. (face self.old.queues a).first) (λ a. (face self.old.queues a).ended) (length (arcs_read self.old.wires actor)) Next.Ended }
         requires running { done_at self.old.over (slice_get self.old.seats.items actor) ≡ false }
-        ensures ok { OnOk result (Stepped O.Operator (known (D.log disk.old)) (known (D.log disk.new)) self.old self.new events.old.items events.new.items) }
+        ensures ok { OnOk result ((n : ℕ) → StepOk O.Operator actor Did.Finished (stage D.PageDisk self.old disk.old events.old.items n)
+            (stage D.PageDisk self.new disk.new events.new.items n)) }
         ensures whole { OnOk result (failed.new ≡ None) }
-        ensures prefix { OnErr result (ShowsPrefix O.Operator (known (D.log disk.old)) (known (D.log disk.new))
-            self.old self.new.levels events.old.items events.new.items) }
-        ensures plans { OnErr result (PlansPrefix self.old self.new.levels events.old.items events.new.items) }
-        ensures strange { IfErr result (λ e. NoneStrange O.Operator (D.log disk.old).honest (known (D.log disk.old)) (known (D.log disk.new))
-            self.old self.new.levels e) }
-        ensures cause { IfErr result (IsCauseIn self.new (D.log disk.old) (D.log disk.new) (D.faults disk.old) (D.faults disk.new)) }
-        ensures feed { IfErr result (IsFeedCause self.old self.new (D.log disk.old) (D.log disk.new)) }
-        ensures faults { D.faults disk.old ≤ D.faults disk.new }
-        ensures later { IsLater (D.log disk.old) (D.log disk.new) }
-        ensures memory { IfErr result (λ e. e ≢ RunErr.TooMuch) }
-        ensures touches { OnOk result (TouchesOnly actor self.old self.new) }
-        ensures taken { OnOk result (taken_in_all O.Operator self.new ≡ taken_in_all O.Operator self.old) }
-        ensures closes { (table : ℕ → ℕ → ℕ) → AgreesWith self.new.levels table → AgreesWith self.old.levels table }
-        ensures measure { OnOk result (measure_of self.new + 1 ≤ measure_of self.old) }
-        ensures stay { IsPrefixOf events.old.items events.new.items }
-        ensures took { OnOk result (Took actor 0 true self.old self.new) }
+        ensures err { IfErr result (λ e. (n : ℕ) → StepErr O.Operator (stage D.PageDisk self.old disk.old events.old.items n)
+            (stage D.PageDisk self.new disk.new events.new.items n) e) }
     {
         finish_into(
             &mut self.seats[actor as usize],
@@ -273,24 +245,11 @@ impl<O: Operator + Drop> Flow<O> {
         requires together { Together self.old.queues (known (D.log disk.old)) }
         requires whole { failed.old ≡ None }
         requires next { IsNextSource self.old.sources.items source }
-        ensures ok { OnOk result (Stepped O.Operator (known (D.log disk.old)) (known (D.log disk.new)) self.old self.new events.old.items events.new.items) }
+        ensures ok { OnOk result ((n : ℕ) → StepOk O.Operator (length self.old.seats.items) Did.Fed (stage D.PageDisk self.old disk.old events.old.items n)
+            (stage D.PageDisk self.new disk.new events.new.items n)) }
         ensures whole { OnOk result (failed.new ≡ None) }
-        ensures prefix { OnErr result (ShowsPrefix O.Operator (known (D.log disk.old)) (known (D.log disk.new))
-            self.old self.new.levels events.old.items events.new.items) }
-        ensures plans { OnErr result (PlansPrefix self.old self.new.levels events.old.items events.new.items) }
-        ensures strange { IfErr result (λ e. NoneStrange O.Operator (D.log disk.old).honest (known (D.log disk.old)) (known (D.log disk.new))
-            self.old self.new.levels e) }
-        ensures cause { IfErr result (IsCauseIn self.new (D.log disk.old) (D.log disk.new) (D.faults disk.old) (D.faults disk.new)) }
-        ensures feed { IfErr result (IsFeedCause self.old self.new (D.log disk.old) (D.log disk.new)) }
-        ensures faults { D.faults disk.old ≤ D.faults disk.new }
-        ensures later { IsLater (D.log disk.old) (D.log disk.new) }
-        ensures memory { IfErr result (λ e. e ≢ RunErr.TooMuch) }
-        ensures touches { OnOk result (TouchesOnly (length self.old.seats.items) self.old self.new) }
-        ensures taken { OnOk result (taken_in_all O.Operator self.new ≡ taken_in_all O.Operator self.old) }
-        ensures closes { (table : ℕ → ℕ → ℕ) → AgreesWith self.new.levels table → AgreesWith self.old.levels table }
-        ensures measure { OnOk result (measure_of self.new + 1 ≤ measure_of self.old) }
-        ensures stay { IsPrefixOf events.old.items events.new.items }
-        ensures took { OnOk result (Took (length self.old.seats.items) 1 false self.old self.new) }
+        ensures err { IfErr result (λ e. (n : ℕ) → StepErr O.Operator (stage D.PageDisk self.old disk.old events.old.items n)
+            (stage D.PageDisk self.new disk.new events.new.items n) e) }
     {
         let tuple = first_of(&mut self.sources[source as usize])?;
         self.clock = tuple.time;

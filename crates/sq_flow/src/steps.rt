@@ -22,12 +22,9 @@ pub struct Progress {
 }
 
 impl<O: Operator + Drop> Flow<O> {
-    ghost use Rattle.sq_flow.specs.Flows.{IsFlow, Stepped, ShowsPrefix, NoneStrange, CostsFed, StepCosts, TooMuchOnly, FailsAt, taken_in_all, Lowers};
-    ghost use Rattle.sq_flow.specs.Flows.{measure_of};
-    ghost use Rattle.sq_flow.specs.Plans.{PlansPrefix};
-    ghost use Rattle.sq_flow.specs.Causes.{IsCauseIn, IsFeedCause};
-    ghost use Rattle.sq_flow.specs.Readiness.{IsReady, TouchesOnly, WaitsOnly, FallsBy, Took, TookBy};
+    ghost use Rattle.sq_flow.specs.Flows.{IsFlow};
     ghost use Rattle.sq_flow.specs.Seats.{done_at};
+    ghost use Rattle.sq_flow.specs.Stepping.{stage, StepOk, StepErr, TrainOk};
 
     /// An actor is finished.
     pub(crate) fn is_done(&self, actor: u32) -> bool
@@ -52,25 +49,11 @@ impl<O: Operator + Drop> Flow<O> {
         requires together { Together self.old.queues (known (D.log disk.old)) }
         requires whole { failed.old ≡ None }
         requires running { self.old.over ≡ false }
-        ensures ok { OnOk result (Stepped O.Operator (known (D.log disk.old)) (known (D.log disk.new)) self.old self.new events.old.items events.new.items) }
+        ensures ok { IfOk result (λ did. (n : ℕ) → StepOk O.Operator (length self.old.seats.items) did
+            (stage D.PageDisk self.old disk.old events.old.items n) (stage D.PageDisk self.new disk.new events.new.items n)) }
         ensures whole { OnOk result (failed.new ≡ None) }
-        ensures prefix { OnErr result (ShowsPrefix O.Operator (known (D.log disk.old)) (known (D.log disk.new))
-            self.old self.new.levels events.old.items events.new.items) }
-        ensures plans { OnErr result (PlansPrefix self.old self.new.levels events.old.items events.new.items) }
-        ensures strange { IfErr result (λ e. NoneStrange O.Operator (D.log disk.old).honest (known (D.log disk.old)) (known (D.log disk.new))
-            self.old self.new.levels e) }
-        ensures cause { IfErr result (IsCauseIn self.new (D.log disk.old) (D.log disk.new) (D.faults disk.old) (D.faults disk.new)) }
-        ensures feed { IfErr result (IsFeedCause self.old self.new (D.log disk.old) (D.log disk.new)) }
-        ensures faults { D.faults disk.old ≤ D.faults disk.new }
-        ensures later { IsLater (D.log disk.old) (D.log disk.new) }
-        ensures touches { OnOk result (TouchesOnly (length self.old.seats.items) self.old self.new) }
-        ensures memory { IfErr result (λ e. e ≢ RunErr.TooMuch) }
-        ensures taken { OnOk result (taken_in_all O.Operator self.new ≡ taken_in_all O.Operator self.old) }
-        ensures closes { (table : ℕ → ℕ → ℕ) → AgreesWith self.new.levels table → AgreesWith self.old.levels table }
-        ensures measure { IfOk result (λ did. Lowers did (measure_of self.old) (measure_of self.new)) }
-        ensures works { IfOk result (λ did. WaitsOnly did ⊥) }
-        ensures stay { IsPrefixOf events.old.items events.new.items }
-        ensures took { IfOk result (λ did. TookBy (length self.old.seats.items) did self.old self.new) }
+        ensures err { IfErr result (λ e. (n : ℕ) → StepErr O.Operator (stage D.PageDisk self.old disk.old events.old.items n)
+            (stage D.PageDisk self.new disk.new events.new.items n) e) }
     {
         match next_source(&self.sources) {
             None => {
@@ -99,27 +82,11 @@ impl<O: Operator + Drop> Flow<O> {
         requires whole { failed.old ≡ None }
         requires actor_in { actor < length self.old.seats.items }
         requires running { done_at self.old.over (slice_get self.old.seats.items actor) ≡ false }
-        ensures ok { OnOk result (Stepped O.Operator (known (D.log disk.old)) (known (D.log disk.new)) self.old self.new events.old.items events.new.items) }
+        ensures ok { IfOk result (λ did. StepOk O.Operator actor did (stage D.PageDisk self.old disk.old events.old.items steps.old)
+            (stage D.PageDisk self.new disk.new events.new.items steps.new)) }
         ensures whole { OnOk result (failed.new ≡ None) }
-        ensures prefix { OnErr result (ShowsPrefix O.Operator (known (D.log disk.old)) (known (D.log disk.new))
-            self.old self.new.levels events.old.items events.new.items) }
-        ensures plans { OnErr result (PlansPrefix self.old self.new.levels events.old.items events.new.items) }
-        ensures strange { IfErr result (λ e. NoneStrange O.Operator (D.log disk.old).honest (known (D.log disk.old)) (known (D.log disk.new))
-            self.old self.new.levels e) }
-        ensures cause { IfErr result (IsCauseIn self.new (D.log disk.old) (D.log disk.new) (D.faults disk.old) (D.faults disk.new)) }
-        ensures feed { IfErr result (IsFeedCause self.old self.new (D.log disk.old) (D.log disk.new)) }
-        ensures faults { D.faults disk.old ≤ D.faults disk.new }
-        ensures later { IsLater (D.log disk.old) (D.log disk.new) }
-        ensures touches { OnOk result (TouchesOnly actor self.old self.new) }
-        ensures cost { OnOk result (CostsFed O.Operator self.old self.new steps.old steps.new) }
-        ensures cost_err { OnErr result (StepCosts O.Operator (known (D.log disk.old)) (known (D.log disk.new)) self.old self.new.levels steps.old steps.new) }
-        ensures too_much { IfErr result (λ e. TooMuchOnly O.Operator (known (D.log disk.old)) (known (D.log disk.new)) self.old self.new e) }
-        ensures closes { (table : ℕ → ℕ → ℕ) → AgreesWith self.new.levels table → AgreesWith self.old.levels table }
-        ensures measure { IfOk result (λ did. Lowers did (measure_of self.old) (measure_of self.new)) }
-        ensures works { IfOk result (λ did. WaitsOnly did (IsReady self.old actor → ⊥)) }
-        ensures stays { IfOk result (λ did. WaitsOnly did (self.new ≡ self.old)) }
-        ensures stay { IsPrefixOf events.old.items events.new.items }
-        ensures took { IfOk result (λ did. TookBy actor did self.old self.new) }
+        ensures err { IfErr result (StepErr O.Operator (stage D.PageDisk self.old disk.old events.old.items steps.old)
+            (stage D.PageDisk self.new disk.new events.new.items steps.new)) }
     {
         match next_of(self.wires.arcs_of(actor), &self.queues) {
             Next::Waits => Ok(Did::Waits),
@@ -148,27 +115,11 @@ impl<O: Operator + Drop> Flow<O> {
         requires together { Together self.old.queues (known (D.log disk.old)) }
         requires whole { failed.old ≡ None }
         requires actor_in { actor ≤ length self.old.seats.items }
-        ensures ok { OnOk result (Stepped O.Operator (known (D.log disk.old)) (known (D.log disk.new)) self.old self.new events.old.items events.new.items) }
+        ensures ok { IfOk result (λ did. StepOk O.Operator actor did (stage D.PageDisk self.old disk.old events.old.items steps.old)
+            (stage D.PageDisk self.new disk.new events.new.items steps.new)) }
         ensures whole { OnOk result (failed.new ≡ None) }
-        ensures prefix { OnErr result (ShowsPrefix O.Operator (known (D.log disk.old)) (known (D.log disk.new))
-            self.old self.new.levels events.old.items events.new.items) }
-        ensures plans { OnErr result (PlansPrefix self.old self.new.levels events.old.items events.new.items) }
-        ensures strange { IfErr result (λ e. NoneStrange O.Operator (D.log disk.old).honest (known (D.log disk.old)) (known (D.log disk.new))
-            self.old self.new.levels e) }
-        ensures cause { IfErr result (IsCauseIn self.new (D.log disk.old) (D.log disk.new) (D.faults disk.old) (D.faults disk.new)) }
-        ensures feed { IfErr result (IsFeedCause self.old self.new (D.log disk.old) (D.log disk.new)) }
-        ensures faults { D.faults disk.old ≤ D.faults disk.new }
-        ensures later { IsLater (D.log disk.old) (D.log disk.new) }
-        ensures touches { OnOk result (TouchesOnly actor self.old self.new) }
-        ensures cost { OnOk result (CostsFed O.Operator self.old self.new steps.old steps.new) }
-        ensures cost_err { OnErr result (StepCosts O.Operator (known (D.log disk.old)) (known (D.log disk.new)) self.old self.new.levels steps.old steps.new) }
-        ensures too_much { IfErr result (λ e. TooMuchOnly O.Operator (known (D.log disk.old)) (known (D.log disk.new)) self.old self.new e) }
-        ensures closes { (table : ℕ → ℕ → ℕ) → AgreesWith self.new.levels table → AgreesWith self.old.levels table }
-        ensures measure { IfOk result (λ did. Lowers did (measure_of self.old) (measure_of self.new)) }
-        ensures works { IfOk result (λ did. WaitsOnly did (IsReady self.old actor → ⊥)) }
-        ensures stays { IfOk result (λ did. WaitsOnly did (self.new ≡ self.old)) }
-        ensures stay { IsPrefixOf events.old.items events.new.items }
-        ensures took { IfOk result (λ did. TookBy actor did self.old self.new) }
+        ensures err { IfErr result (StepErr O.Operator (stage D.PageDisk self.old disk.old events.old.items steps.old)
+            (stage D.PageDisk self.new disk.new events.new.items steps.new)) }
     {
         if self.is_done(actor) {
             return Ok(Did::Waits);
@@ -193,27 +144,10 @@ impl<O: Operator + Drop> Flow<O> {
         requires together { Together self.old.queues (known (D.log disk.old)) }
         requires actor_in { actor ≤ length self.old.seats.items }
         requires some { 1 ≤ train }
-        ensures ok { OnOk result (Stepped O.Operator (known (D.log disk.old)) (known (D.log disk.new)) self.old self.new events.old.items events.new.items) }
-        ensures prefix { OnErr result (ShowsPrefix O.Operator (known (D.log disk.old)) (known (D.log disk.new))
-            self.old self.new.levels events.old.items events.new.items) }
-        ensures plans { OnErr result (PlansPrefix self.old self.new.levels events.old.items events.new.items) }
-        ensures strange { IfErr result (λ e. NoneStrange O.Operator (D.log disk.old).honest (known (D.log disk.old)) (known (D.log disk.new))
-            self.old self.new.levels e) }
-        ensures cause { IfErr result (IsCauseIn self.new (D.log disk.old) (D.log disk.new) (D.faults disk.old) (D.faults disk.new)) }
-        ensures feed { IfErr result (FailsAt O.Operator (D.log disk.old) (D.log disk.new) self.old self.new events.old.items) }
-        ensures faults { D.faults disk.old ≤ D.faults disk.new }
-        ensures later { IsLater (D.log disk.old) (D.log disk.new) }
-        ensures touches { OnOk result (TouchesOnly actor self.old self.new) }
-        ensures cost { OnOk result (CostsFed O.Operator self.old self.new steps.old steps.new) }
-        ensures cost_err { OnErr result (StepCosts O.Operator (known (D.log disk.old)) (known (D.log disk.new)) self.old self.new.levels steps.old steps.new) }
-        ensures too_much { IfErr result (λ e. TooMuchOnly O.Operator (known (D.log disk.old)) (known (D.log disk.new)) self.old self.new e) }
-        ensures stops { IfOk result (λ p. (p.fed ≡ train) ⊎ ((p.finished ≡ true) ⊎ (IsReady self.new actor → ⊥))) }
-        ensures closes { (table : ℕ → ℕ → ℕ) → AgreesWith self.new.levels table → AgreesWith self.old.levels table }
-        ensures measure { IfOk result (λ p. FallsBy p.fed p.finished (measure_of self.old) (measure_of self.new)) }
-        ensures works { IfOk result (λ p. IsReady self.old actor → (p.fed ≡ 0) → p.finished ≡ true) }
-        ensures most { IfOk result (λ p. p.fed ≤ train) }
-        ensures stay { IsPrefixOf events.old.items events.new.items }
-        ensures took { IfOk result (λ p. done_at self.old.over (slice_get self.old.seats.items actor) ≡ false → Took actor p.fed p.finished self.old self.new) }
+        ensures ok { IfOk result (TrainOk O.Operator actor train (stage D.PageDisk self.old disk.old events.old.items steps.old)
+            (stage D.PageDisk self.new disk.new events.new.items steps.new)) }
+        ensures err { IfErr result (StepErr O.Operator (stage D.PageDisk self.old disk.old events.old.items steps.old)
+            (stage D.PageDisk self.new disk.new events.new.items steps.new)) }
     {
         // One room for a fault serves the whole train.
         let mut failed = None;

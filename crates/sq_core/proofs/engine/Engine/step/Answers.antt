@@ -1,30 +1,35 @@
 use Rattle.std.proofs.Common.{refl}
 use Rattle.sq_pool.specs.Trust.{known}
-use Rattle.sq_core.proofs.RunLemmas.{run-clause, stopped-clause, shows-clause}
-use Rattle.std.proofs.lemmas.Result.{on_ok_weaker}
+use Rattle.sq_core.proofs.RunLemmas.{run-after, sound-after, stopped-after, shows-after}
 use Rattle.sq_core.proofs.engine.Engine.step.Goals as goal
 
-pub returns-clause-run : goal.returns-clause-run
-returns-clause-run g c =
-    run-clause (known (g.D.PageDisk.log c.args.disk.now)) (known (g.D.PageDisk.log c.step.new.disk)) c.args.self.now (record c.args.self.now { engine = c.step.new.self })
-    c.args.events.now.items c.step.new.events.items c.args.steps.now c.step.new.steps refl c.step.result c.step.ensures.ok c.step.ensures.engine c.step.ensures.cost
+pub returns-in-Ok-clause-ok : goal.returns-in-Ok-clause-ok
+returns-in-Ok-clause-ok g c =
+    let was = known (g.D.PageDisk.log c.args.disk.now) in
+    let is = known (g.D.PageDisk.log c.step.new.disk) in
+    let after = record c.args.self.now { engine = c.step.new.self } in
+    let step = c.in-Ok.ensures.ok in
+    let moves = step.train.moves in
+    record {
+      step = step;
+      sound = sound-after was is c.args.self.now after c.args.events.now.items c.step.new.events.items refl moves.stepped step.engine c.requires.sound;
+      run = run-after was is c.args.self.now after c.args.events.now.items c.step.new.events.items refl moves.stepped step.engine c.args.steps.now c.step.new.steps moves.cost;
+      shows = shows-after was is c.args.self.now after c.args.events.now.items c.step.new.events.items refl moves.stepped step.engine c.requires.sound;
+    }
 
-pub returns-clause-stopped : goal.returns-clause-stopped
-returns-clause-stopped g c =
-    stopped-clause (known (g.D.PageDisk.log c.args.disk.now)) (known (g.D.PageDisk.log c.step.new.disk)) c.args.self.now (record c.args.self.now { engine = c.step.new.self })
-    c.args.events.now.items c.step.new.events.items c.args.steps.now c.step.new.steps refl c.step.result (g.D.PageDisk.log c.args.disk.now).honest c.step.ensures.later.known
-    c.step.ensures.prefix c.step.ensures.plans c.step.ensures.cost_err c.step.ensures.strange c.step.ensures.too_much
+pub returns-in-Err-clause-err : goal.returns-in-Err-clause-err
+returns-in-Err-clause-err g c =
+    let step = c.in-Err.ensures.err in
+    record {
+      step = step;
+      failed = c.in-Err.ensures.failed;
+      stopped = stopped-after (known (g.D.PageDisk.log c.args.disk.now)) (known (g.D.PageDisk.log c.step.new.disk)) c.args.self.now (record c.args.self.now { engine = c.step.new.self })
+          c.args.events.now.items c.step.new.events.items refl (g.D.PageDisk.log c.args.disk.now).honest step.keeps.later.known c.args.steps.now c.step.new.steps c.in-Err.e
+          step.prefix step.plans step.cost step.strange step.too_much;
+    }
 
-pub returns-clause-shows : goal.returns-clause-shows
-returns-clause-shows g c =
-    shows-clause (known (g.D.PageDisk.log c.args.disk.now)) (known (g.D.PageDisk.log c.step.new.disk)) c.args.self.now (record c.args.self.now { engine = c.step.new.self })
-    c.args.events.now.items c.step.new.events.items c.args.steps.now c.step.new.steps refl c.step.result c.step.ensures.ok c.step.ensures.engine c.requires.sound
+pub returns-in-Ok-clause-keeps : goal.returns-in-Ok-clause-keeps
+returns-in-Ok-clause-keeps g c = c.in-Ok.ensures.ok.train.moves.keeps
 
-pub returns-clause-frames : goal.returns-clause-frames
-returns-clause-frames g c = on_ok_weaker c.step.result (λ did. did.framed) c.step.ensures.ok
-
-pub returns-clause-goes : goal.returns-clause-goes
-returns-clause-goes g c = c.step.ensures.ok
-
-pub returns-clause-feed : goal.returns-clause-feed
-returns-clause-feed g c = c.step.ensures.feed
+pub returns-in-Err-clause-keeps : goal.returns-in-Err-clause-keeps
+returns-in-Err-clause-keeps g c = c.in-Err.ensures.err.keeps

@@ -17,18 +17,130 @@ use Rattle.sq_flow.proofs.PlanLemmas.{div-low}
 use Rattle.sq_flow.proofs.ReleasedPlans.{plans-stay}
 use Rattle.sq_flow.proofs.ReplayFlow.{lines-stay}
 use Rattle.sq_flow.proofs.TookLemmas.{fed-sum, operator-took, goes-on}
+use Rattle.sq_flow.proofs.SteppingLemmas.{fails-here}
 use Rattle.sq_flow.proofs.flow.Flow.feed_step.Goals as goal
 use Rattle.sq_words.proofs.Prefixes.{prefix_itself}
 use Rattle.sq_words.proofs.Lists.{get_set_same, get_set_other}
 
-pub returns-in-Err-clause-strange : goal.returns-in-Err-clause-strange
-returns-in-Err-clause-strange g c =
+pub returns-clause-ok : goal.returns-clause-ok
+returns-clause-ok g c =
+    let was = slice_get_read c.args.self.now.seats.items _ c.args.actor c.index.result.now refl c.requires.actor_in c.index.ensures in
+    let is = slice_get_read c.args.self.now.seats.items _ c.args.actor c.index_mut.result.now refl c.requires.actor_in c.index_mut.ensures.value in
+    let same = same_Some c.index.result.now c.index_mut.result.now (sym was ∙ is) in
+    let may = subst (λ z. MayBeFed c.arc-at.result.now c.args.port z.tally.place c.args.self.now.clock c.in-Ok.item) same c.in-Ok.ensures.may_be_fed in
+    let still = open-same c.args.self.now.seats.items c.args.actor c.index_mut.result.now c.feed_into.new.seat is c.in_ok-feed_into.ensures.fed.fed.open_still in
+    let weight = weighs c.in-Ok.item c.in-Ok.ensures.sound in
+    let more = c.in-Ok-count_item.ensures.ok.0 in
+    let low = c.in-Ok-count_item.ensures.ok.1 in
+    let after = get_set_same c.args.self.now.seats.items c.args.actor c.feed_into.new.seat c.requires.actor_in in
+    record {
+      moves = record {
+          stepped =
+              fed-stepped _ c.args.self.now c.requires.flow c.args.actor c.requires.head.0 c.args.port c.args.arc c.arc-at.result.now c.in-Ok.item c.requires.actor_in c.requires.head.1 c.index_mut.result.now is c.arc-at.ensures
+              (known (g.D.PageDisk.log c.args.disk.now)) (known (g.D.PageDisk.log c.feed_into.new.disk)) (known (g.D.PageDisk.log c.take_item.new.disk)) c.take_item.new.queues c.feed_into.new.queues _ c.in-Ok-count_item.taken
+              c.feed_into.new.seat c.in_ok-feed_into.ensures.fed.items c.in_ok-feed_into.ensures.fed.drops c.args.events.now.items c.feed_into.new.events.items
+              c.requires.together
+              may
+              c.in-Ok.ensures.ended c.in-Ok.ensures.size c.in-Ok.ensures.frames c.in-Ok.ensures.items c.in-Ok.ensures.others c.in-Ok.ensures.later.known c.in-Ok-count_item.ensures.ok.0 c.in-Ok-count_item.ensures.ok.1
+              c.in_ok-feed_into.ensures.fed.fed
+              (get_set_same c.args.self.now.seats.items c.args.actor c.feed_into.new.seat c.requires.actor_in)
+              (λ other ne. get_set_other c.args.self.now.seats.items c.args.actor other c.feed_into.new.seat ne)
+              (length-set c.args.self.now.seats.items c.args.actor c.feed_into.new.seat) c.requires.running c.in_ok-feed_into.ensures.fed.onward.sent c.in_ok-feed_into.ensures.fed.onward.shown.lines c.in_ok-feed_into.ensures.fed.onward.shown.decided
+              (c.in_ok-feed_into.ensures.fed.onward.shown.below (length c.args.self.now.seats.items - c.args.self.now.wires.shown) (below-outputs c.args.actor (length c.args.self.now.seats.items) c.args.self.now.wires.shown c.requires.actor_in)
+              (own-drops _ c.args.self.now c.requires.flow c.args.actor c.requires.head.0 c.args.port c.args.arc c.arc-at.result.now c.in-Ok.item c.requires.actor_in c.requires.head.1 c.index_mut.result.now is c.arc-at.ensures
+              c.feed_into.new.seat c.in_ok-feed_into.ensures.fed.items c.in_ok-feed_into.ensures.fed.drops c.in_ok-feed_into.ensures.fed.fed may
+              (runs _ c.args.self.now c.requires.flow c.args.actor c.requires.head.0 c.args.port c.args.arc c.arc-at.result.now c.in-Ok.item c.requires.actor_in c.requires.head.1 c.index_mut.result.now is c.arc-at.ensures c.requires.running)))
+              c.in_ok-feed_into.ensures.fed.onward.shown.plans;
+          keeps = record { faults = le_trans c.in-Ok.ensures.faults c.in_ok-feed_into.ensures.faults; later = IsLater-trans _ _ _ c.in-Ok.ensures.later c.in_ok-feed_into.ensures.later; stay = c.in_ok-feed_into.ensures.fed.onward.shown.stay };
+          touches =
+              fed-touches _ c.args.self.now c.requires.flow c.args.actor c.requires.head.0 c.args.port c.args.arc c.arc-at.result.now c.in-Ok.item c.requires.actor_in c.requires.head.1 c.index_mut.result.now is c.arc-at.ensures
+              (known (g.D.PageDisk.log c.feed_into.new.disk)) (known (g.D.PageDisk.log c.take_item.new.disk)) c.take_item.new.queues c.feed_into.new.queues _ c.in-Ok-count_item.taken c.feed_into.new.seat c.in_ok-feed_into.ensures.fed.items
+              c.in-Ok.ensures.faces c.in_ok-feed_into.ensures.fed.fed.open_still
+              (get_set_same c.args.self.now.seats.items c.args.actor c.feed_into.new.seat c.requires.actor_in)
+              (λ other ne. get_set_other c.args.self.now.seats.items c.args.actor other c.feed_into.new.seat ne) c.in_ok-feed_into.ensures.fed.onward.sent;
+          cost =
+              costs-fed _ c.args.self.now c.requires.flow c.args.actor c.requires.head.0 c.args.port c.args.arc c.arc-at.result.now c.in-Ok.item c.requires.actor_in c.requires.head.1 c.index_mut.result.now is c.arc-at.ensures
+              (with_item c.args.self.now.seats c.args.actor c.feed_into.new.seat) c.feed_into.new.queues c.in-Ok-count_item.taken c.feed_into.new.seat c.args.steps.now c.feed_into.new.steps
+              (get_set_same c.args.self.now.seats.items c.args.actor c.feed_into.new.seat c.requires.actor_in)
+              (λ other ne. get_set_other c.args.self.now.seats.items c.args.actor other c.feed_into.new.seat ne)
+              (length-set c.args.self.now.seats.items c.args.actor c.feed_into.new.seat) c.in_ok-feed_into.ensures.fed.fed.after.counted c.in_ok-feed_into.ensures.cost;
+      };
+      lowers = omega (arith, still, weight, more, low);
+      took =
+          operator-took c.args.self.now _ c.args.actor 1 false c.requires.actor_in (length-set c.args.self.now.seats.items c.args.actor c.feed_into.new.seat)
+          (fed-sum c.args.self.now.wires (length c.args.self.now.seats.items) c.requires.flow.shaped c.args.actor c.requires.actor_in c.args.self.now.queues c.take_item.new.queues c.feed_into.new.queues c.args.port c.args.arc
+          c.requires.head.1.1 c.in-Ok.ensures.popped c.in-Ok.ensures.faces c.in_ok-feed_into.ensures.fed.onward.sent.apart)
+          (goes-on c.args.self.now.over _ _ c.index_mut.result.now c.feed_into.new.seat is after c.in_ok-feed_into.ensures.fed.fed.open_still c.requires.running);
+      waits = tt;
+    }
+
+pub returns-in-Err-clause-err : goal.returns-in-Err-clause-err
+returns-in-Err-clause-err g c =
     let is = slice_get_read c.args.self.now.seats.items _ c.args.actor c.index.result.now refl c.requires.actor_in c.index.ensures in
-    λ told table agrees holds.
-    c.in-Err.ensures.strange told
-    (λ item more front.
-    passes-front _ c.args.self.now c.requires.flow c.args.actor c.requires.head.0 c.args.port c.args.arc c.arc-at.result.now item c.requires.actor_in c.requires.head.1
-    c.index.result.now is c.arc-at.ensures table agrees (items_on c.args.self.now.queues (known (g.D.PageDisk.log c.args.disk.now))) holds (c.requires.together.faces (c.in-Err.ensures.later.known told)) more front)
+    record {
+      keeps = record { faults = c.in-Err.ensures.faults; later = c.in-Err.ensures.later; stay = prefix_itself _ };
+      closes = λ table agrees. agrees;
+      prefix = lines-stay _ (known (g.D.PageDisk.log c.args.disk.now)) (known (g.D.PageDisk.log c.take_item.new.disk)) c.args.self.now c.args.self.now.levels c.args.events.now.items c.args.events.now.items (λ o. refl) (λ w. refl);
+      plans = plans-stay c.args.self.now c.args.events.now.items c.args.events.now.items refl;
+      strange =
+          λ told table agrees holds.
+          c.in-Err.ensures.strange told
+          (λ item more front.
+          passes-front _ c.args.self.now c.requires.flow c.args.actor c.requires.head.0 c.args.port c.args.arc c.arc-at.result.now item c.requires.actor_in c.requires.head.1
+          c.index.result.now is c.arc-at.ensures table agrees (items_on c.args.self.now.queues (known (g.D.PageDisk.log c.args.disk.now))) holds (c.requires.together.faces (c.in-Err.ensures.later.known told)) more front);
+      cause = refused-in _ c.args.actor c.args.port c.args.arc c.index.result.now c.arc-at.result.now _ _ _ _ _ _ c.requires.head.1.1 is c.arc-at.ensures c.in-Err.ensures.cause;
+      feed =
+          fails-here _ _ _ _ _ _ _ c.requires.flow c.requires.together c.in-Err.ensures.later
+          (refused-feed c.args.self.now (record c.args.self.now { queues = c.take_item.new.queues }) c.args.actor c.args.port c.args.arc _ _ _ _ _ _ _ _ c.requires.head.1.1 refl c.in-Err.ensures.cause);
+      cost = costs-none _ c.args.self.now c.requires.flow (known (g.D.PageDisk.log c.args.disk.now)) (known (g.D.PageDisk.log c.take_item.new.disk)) c.args.self.now.levels c.args.steps.now c.args.steps.now refl;
+      too_much = none-too-much _ _ _ _ _ _ c.in-Err.ensures.memory;
+    }
+
+pub returns-in-Err-count_item-clause-err : goal.returns-in-Err-count_item-clause-err
+returns-in-Err-count_item-clause-err g c =
+    let is = slice_get_read c.args.self.now.seats.items _ c.args.actor c.index.result.now refl c.requires.actor_in c.index.ensures in
+    record {
+      keeps = record { faults = c.in-Ok.ensures.faults; later = c.in-Ok.ensures.later; stay = prefix_itself _ };
+      closes = λ table agrees. agrees;
+      prefix = lines-stay _ (known (g.D.PageDisk.log c.args.disk.now)) (known (g.D.PageDisk.log c.take_item.new.disk)) c.args.self.now c.args.self.now.levels c.args.events.now.items c.args.events.now.items (λ o. refl) (λ w. refl);
+      plans = plans-stay c.args.self.now c.args.events.now.items c.args.events.now.items refl;
+      strange = λ told table agrees holds. rw c.in-Err-count_item.ensures.err tt;
+      cause = too-much-in _ _ _ _ _ _ c.in-Err-count_item.ensures.err;
+      feed =
+          fails-here _ _ _ _ _ _ _ c.requires.flow c.requires.together c.in-Ok.ensures.later
+          (full-feed c.args.self.now (record c.args.self.now { queues = c.take_item.new.queues }) c.args.actor c.args.port c.args.arc c.in-Ok.item _ _ _ c.requires.head.1.1 refl
+          (record { popped = c.in-Ok.ensures.popped; others = c.in-Ok.ensures.faces; first = c.in-Ok.ensures.first; items = c.in-Ok.ensures.items }) c.in-Err-count_item.ensures.err c.in-Err-count_item.ensures.too_much);
+      cost = costs-none _ c.args.self.now c.requires.flow (known (g.D.PageDisk.log c.args.disk.now)) (known (g.D.PageDisk.log c.take_item.new.disk)) c.args.self.now.levels c.args.steps.now c.args.steps.now refl;
+      too_much =
+          too-much-front _ c.args.self.now c.requires.flow c.args.actor c.requires.head.0 c.args.port c.args.arc c.arc-at.result.now c.in-Ok.item c.requires.actor_in c.requires.head.1 c.index.result.now is c.arc-at.ensures
+          (known (g.D.PageDisk.log c.args.disk.now)) (known (g.D.PageDisk.log c.take_item.new.disk)) c.take_item.new.queues _ c.in-Err-count_item.e c.requires.together c.in-Ok.ensures.later.known c.in-Ok.ensures.items c.in-Ok.ensures.others
+          c.in-Err-count_item.ensures.too_much c.in-Err-count_item.ensures.few refl refl;
+    }
+
+pub returns-in_err-feed_into-clause-err : goal.returns-in_err-feed_into-clause-err
+returns-in_err-feed_into-clause-err g c =
+    let p = err_from_is_err_and c.from_residual.result c.from_residual.ensures.1 in
+    let was = slice_get_read c.args.self.now.seats.items _ c.args.actor c.index.result.now refl c.requires.actor_in c.index.ensures in
+    let is = slice_get_read c.args.self.now.seats.items _ c.args.actor c.index_mut.result.now refl c.requires.actor_in c.index_mut.ensures.value in
+    let same = same_Some c.index.result.now c.index_mut.result.now (sym was ∙ is) in
+    rw (p.1, p.2)
+    (record {
+      keeps = record { faults = le_trans c.in-Ok.ensures.faults c.in_err-feed_into.ensures.faults; later = IsLater-trans _ _ _ c.in-Ok.ensures.later c.in_err-feed_into.ensures.later; stay = c.in_err-feed_into.ensures.part.shown.stay };
+      closes = λ table agrees. agrees;
+      prefix =
+          fed-part _ c.args.self.now c.requires.flow c.args.actor c.requires.head.0 c.args.port c.args.arc c.arc-at.result.now c.in-Ok.item c.requires.actor_in c.requires.head.1 c.index_mut.result.now is c.arc-at.ensures
+          (known (g.D.PageDisk.log c.args.disk.now)) (known (g.D.PageDisk.log c.take_item.new.disk)) (known (g.D.PageDisk.log c.feed_into.new.disk)) c.take_item.new.queues c.args.events.now.items c.feed_into.new.events.items
+          c.requires.together c.in-Ok.ensures.later.known c.in_err-feed_into.ensures.later.known c.in-Ok.ensures.items c.in-Ok.ensures.others c.in_err-feed_into.ensures.part
+          (subst (λ z. MayBeFed c.arc-at.result.now c.args.port z.tally.place c.args.self.now.clock c.in-Ok.item) same c.in-Ok.ensures.may_be_fed) c.requires.running;
+      plans = plans-stay c.args.self.now c.args.events.now.items c.feed_into.new.events.items c.in_err-feed_into.ensures.part.shown.plans;
+      strange = λ told table agrees holds. changed-since _ _ _ c.in-Ok.ensures.later.honest (c.in_err-feed_into.ensures.honest told);
+      cause = cause-in _ _ _ _ _ _ (queue-cause-since _ _ _ _ _ _ _ _ c.in-Ok.ensures.later c.in-Ok.ensures.faults c.in_err-feed_into.ensures.cause);
+      feed =
+          fails-here _ _ _ _ _ _ _ c.requires.flow c.requires.together (IsLater-trans _ _ _ c.in-Ok.ensures.later c.in_err-feed_into.ensures.later)
+          (feeds-none _ _ _ _ _ _ _ _ _ _ c.in_err-feed_into.ensures.cause);
+      cost = costs-none _ c.args.self.now c.requires.flow (known (g.D.PageDisk.log c.args.disk.now)) (known (g.D.PageDisk.log c.feed_into.new.disk)) c.args.self.now.levels c.args.steps.now c.feed_into.new.steps c.in_err-feed_into.ensures.no_cost;
+      too_much = none-too-much _ _ _ _ _ _ (counts-none _ _ _ _ _ _ c.in_err-feed_into.ensures.cause);
+    })
 
 pub feed_into-requires-clause-is_valid : goal.feed_into-requires-clause-is_valid
 feed_into-requires-clause-is_valid g c =
@@ -62,50 +174,6 @@ feed_into-requires-clause-there g c = λ port place arc is.
     let r = arcs-open _ c.args.self.now c.requires.flow c.args.actor c.requires.running port place arc is in
     (rw c.in-Ok.ensures.size r.0, c.in-Ok.ensures.ended arc ∙ r.1)
 
-pub returns-clause-ok : goal.returns-clause-ok
-returns-clause-ok g c =
-    let was = slice_get_read c.args.self.now.seats.items _ c.args.actor c.index.result.now refl c.requires.actor_in c.index.ensures in
-    let is = slice_get_read c.args.self.now.seats.items _ c.args.actor c.index_mut.result.now refl c.requires.actor_in c.index_mut.ensures.value in
-    let same = same_Some c.index.result.now c.index_mut.result.now (sym was ∙ is) in
-    let may = subst (λ z. MayBeFed c.arc-at.result.now c.args.port z.tally.place c.args.self.now.clock c.in-Ok.item) same c.in-Ok.ensures.may_be_fed in
-    fed-stepped _ c.args.self.now c.requires.flow c.args.actor c.requires.head.0 c.args.port c.args.arc c.arc-at.result.now c.in-Ok.item c.requires.actor_in c.requires.head.1 c.index_mut.result.now is c.arc-at.ensures
-    (known (g.D.PageDisk.log c.args.disk.now)) (known (g.D.PageDisk.log c.feed_into.new.disk)) (known (g.D.PageDisk.log c.take_item.new.disk)) c.take_item.new.queues c.feed_into.new.queues _ c.in-Ok-count_item.taken
-    c.feed_into.new.seat c.in_ok-feed_into.ensures.fed.items c.in_ok-feed_into.ensures.fed.drops c.args.events.now.items c.feed_into.new.events.items
-    c.requires.together
-    may
-    c.in-Ok.ensures.ended c.in-Ok.ensures.size c.in-Ok.ensures.frames c.in-Ok.ensures.items c.in-Ok.ensures.others c.in-Ok.ensures.later.known c.in-Ok-count_item.ensures.ok.0 c.in-Ok-count_item.ensures.ok.1
-    c.in_ok-feed_into.ensures.fed.fed
-    (get_set_same c.args.self.now.seats.items c.args.actor c.feed_into.new.seat c.requires.actor_in)
-    (λ other ne. get_set_other c.args.self.now.seats.items c.args.actor other c.feed_into.new.seat ne)
-    (length-set c.args.self.now.seats.items c.args.actor c.feed_into.new.seat) c.requires.running c.in_ok-feed_into.ensures.fed.onward.sent c.in_ok-feed_into.ensures.fed.onward.shown.lines c.in_ok-feed_into.ensures.fed.onward.shown.decided
-    (c.in_ok-feed_into.ensures.fed.onward.shown.below (length c.args.self.now.seats.items - c.args.self.now.wires.shown) (below-outputs c.args.actor (length c.args.self.now.seats.items) c.args.self.now.wires.shown c.requires.actor_in)
-    (own-drops _ c.args.self.now c.requires.flow c.args.actor c.requires.head.0 c.args.port c.args.arc c.arc-at.result.now c.in-Ok.item c.requires.actor_in c.requires.head.1 c.index_mut.result.now is c.arc-at.ensures
-    c.feed_into.new.seat c.in_ok-feed_into.ensures.fed.items c.in_ok-feed_into.ensures.fed.drops c.in_ok-feed_into.ensures.fed.fed may
-    (runs _ c.args.self.now c.requires.flow c.args.actor c.requires.head.0 c.args.port c.args.arc c.arc-at.result.now c.in-Ok.item c.requires.actor_in c.requires.head.1 c.index_mut.result.now is c.arc-at.ensures c.requires.running)))
-    c.in_ok-feed_into.ensures.fed.onward.shown.plans
-
-pub returns-clause-measure : goal.returns-clause-measure
-returns-clause-measure g c =
-    let is = slice_get_read c.args.self.now.seats.items _ c.args.actor c.index_mut.result.now refl c.requires.actor_in c.index_mut.ensures.value in
-    let same = open-same c.args.self.now.seats.items c.args.actor c.index_mut.result.now c.feed_into.new.seat is c.in_ok-feed_into.ensures.fed.fed.open_still in
-    let weight = weighs c.in-Ok.item c.in-Ok.ensures.sound in
-    let more = c.in-Ok-count_item.ensures.ok.0 in
-    let low = c.in-Ok-count_item.ensures.ok.1 in
-    omega (arith, same, weight, more, low)
-
-pub returns-in-Err-clause-cost_err : goal.returns-in-Err-clause-cost_err
-returns-in-Err-clause-cost_err g c = costs-none _ c.args.self.now c.requires.flow (known (g.D.PageDisk.log c.args.disk.now)) (known (g.D.PageDisk.log c.take_item.new.disk)) c.args.self.now.levels c.args.steps.now c.args.steps.now refl
-
-pub returns-in-Err-count_item-clause-cost_err : goal.returns-in-Err-count_item-clause-cost_err
-returns-in-Err-count_item-clause-cost_err g c = costs-none _ c.args.self.now c.requires.flow (known (g.D.PageDisk.log c.args.disk.now)) (known (g.D.PageDisk.log c.take_item.new.disk)) c.args.self.now.levels c.args.steps.now c.args.steps.now refl
-
-pub returns-in-Err-count_item-clause-too_much : goal.returns-in-Err-count_item-clause-too_much
-returns-in-Err-count_item-clause-too_much g c =
-    let is = slice_get_read c.args.self.now.seats.items _ c.args.actor c.index.result.now refl c.requires.actor_in c.index.ensures in
-    too-much-front _ c.args.self.now c.requires.flow c.args.actor c.requires.head.0 c.args.port c.args.arc c.arc-at.result.now c.in-Ok.item c.requires.actor_in c.requires.head.1 c.index.result.now is c.arc-at.ensures
-    (known (g.D.PageDisk.log c.args.disk.now)) (known (g.D.PageDisk.log c.take_item.new.disk)) c.take_item.new.queues _ c.in-Err-count_item.e c.requires.together c.in-Ok.ensures.later.known c.in-Ok.ensures.items c.in-Ok.ensures.others
-    c.in-Err-count_item.ensures.too_much c.in-Err-count_item.ensures.few refl refl
-
 pub feed_into-requires-clause-has_epoch : goal.feed_into-requires-clause-has_epoch
 feed_into-requires-clause-has_epoch g c =
     let is = slice_get_read c.args.self.now.seats.items _ c.args.actor c.index_mut.result.now refl c.requires.actor_in c.index_mut.ensures.value in
@@ -114,160 +182,6 @@ feed_into-requires-clause-has_epoch g c =
 
 pub feed_into-requires-clause-joined : goal.feed_into-requires-clause-joined
 feed_into-requires-clause-joined g c = comes-from c.args.self.now.wires (length c.args.self.now.seats.items) c.requires.flow.shaped c.args.actor
-
-pub returns-clause-touches : goal.returns-clause-touches
-returns-clause-touches g c =
-    let is = slice_get_read c.args.self.now.seats.items _ c.args.actor c.index_mut.result.now refl c.requires.actor_in c.index_mut.ensures.value in
-    fed-touches _ c.args.self.now c.requires.flow c.args.actor c.requires.head.0 c.args.port c.args.arc c.arc-at.result.now c.in-Ok.item c.requires.actor_in c.requires.head.1 c.index_mut.result.now is c.arc-at.ensures
-    (known (g.D.PageDisk.log c.feed_into.new.disk)) (known (g.D.PageDisk.log c.take_item.new.disk)) c.take_item.new.queues c.feed_into.new.queues _ c.in-Ok-count_item.taken c.feed_into.new.seat c.in_ok-feed_into.ensures.fed.items
-    c.in-Ok.ensures.faces c.in_ok-feed_into.ensures.fed.fed.open_still
-    (get_set_same c.args.self.now.seats.items c.args.actor c.feed_into.new.seat c.requires.actor_in)
-    (λ other ne. get_set_other c.args.self.now.seats.items c.args.actor other c.feed_into.new.seat ne) c.in_ok-feed_into.ensures.fed.onward.sent
-
-pub returns-clause-cost : goal.returns-clause-cost
-returns-clause-cost g c =
-    let is = slice_get_read c.args.self.now.seats.items _ c.args.actor c.index_mut.result.now refl c.requires.actor_in c.index_mut.ensures.value in
-    costs-fed _ c.args.self.now c.requires.flow c.args.actor c.requires.head.0 c.args.port c.args.arc c.arc-at.result.now c.in-Ok.item c.requires.actor_in c.requires.head.1 c.index_mut.result.now is c.arc-at.ensures
-    (with_item c.args.self.now.seats c.args.actor c.feed_into.new.seat) c.feed_into.new.queues c.in-Ok-count_item.taken c.feed_into.new.seat c.args.steps.now c.feed_into.new.steps
-    (get_set_same c.args.self.now.seats.items c.args.actor c.feed_into.new.seat c.requires.actor_in)
-    (λ other ne. get_set_other c.args.self.now.seats.items c.args.actor other c.feed_into.new.seat ne)
-    (length-set c.args.self.now.seats.items c.args.actor c.feed_into.new.seat) c.in_ok-feed_into.ensures.fed.fed.after.counted c.in_ok-feed_into.ensures.cost
-
-pub returns-in-Err-clause-cause : goal.returns-in-Err-clause-cause
-returns-in-Err-clause-cause g c =
-    let is = slice_get_read c.args.self.now.seats.items _ c.args.actor c.index.result.now refl c.requires.actor_in c.index.ensures in
-    refused-in _ c.args.actor c.args.port c.args.arc c.index.result.now c.arc-at.result.now _ _ _ _ _ _ c.requires.head.1.1 is c.arc-at.ensures c.in-Err.ensures.cause
-
-pub returns-in-Err-count_item-clause-cause : goal.returns-in-Err-count_item-clause-cause
-returns-in-Err-count_item-clause-cause g c = too-much-in _ _ _ _ _ _ c.in-Err-count_item.ensures.err
-
-pub returns-in_err-feed_into-clause-cause : goal.returns-in_err-feed_into-clause-cause
-returns-in_err-feed_into-clause-cause g c =
-    let p = err_from_is_err_and c.from_residual.result c.from_residual.ensures.1 in
-    rw (p.1, p.2) (cause-in _ _ _ _ _ _ (queue-cause-since _ _ _ _ _ _ _ _ c.in-Ok.ensures.later c.in-Ok.ensures.faults c.in_err-feed_into.ensures.cause))
-
-pub returns-in-Err-clause-feed : goal.returns-in-Err-clause-feed
-returns-in-Err-clause-feed g c =
-    refused-feed c.args.self.now (record c.args.self.now { queues = c.take_item.new.queues }) c.args.actor c.args.port c.args.arc _ _ _ _ _ _ _ _ c.requires.head.1.1 refl c.in-Err.ensures.cause
-
-pub returns-in-Err-count_item-clause-feed : goal.returns-in-Err-count_item-clause-feed
-returns-in-Err-count_item-clause-feed g c =
-    full-feed c.args.self.now (record c.args.self.now { queues = c.take_item.new.queues }) c.args.actor c.args.port c.args.arc c.in-Ok.item _ _ _ c.requires.head.1.1 refl
-    (record { popped = c.in-Ok.ensures.popped; others = c.in-Ok.ensures.faces; first = c.in-Ok.ensures.first; items = c.in-Ok.ensures.items }) c.in-Err-count_item.ensures.err c.in-Err-count_item.ensures.too_much
-
-pub returns-in_err-feed_into-clause-feed : goal.returns-in_err-feed_into-clause-feed
-returns-in_err-feed_into-clause-feed g c =
-    let p = err_from_is_err_and c.from_residual.result c.from_residual.ensures.1 in
-    rw (p.1, p.2) (feeds-none _ _ _ _ _ _ _ _ _ _ c.in_err-feed_into.ensures.cause)
-
-pub returns-in_err-feed_into-clause-strange : goal.returns-in_err-feed_into-clause-strange
-returns-in_err-feed_into-clause-strange g c =
-    let p = err_from_is_err_and c.from_residual.result c.from_residual.ensures.1 in
-    rw (p.1, p.2) (λ told table agrees holds. changed-since _ _ _ c.in-Ok.ensures.later.honest (c.in_err-feed_into.ensures.honest told))
-
-pub returns-in_err-feed_into-clause-too_much : goal.returns-in_err-feed_into-clause-too_much
-returns-in_err-feed_into-clause-too_much g c =
-    let p = err_from_is_err_and c.from_residual.result c.from_residual.ensures.1 in
-    rw (p.1, p.2) (none-too-much _ _ _ _ _ _ (counts-none _ _ _ _ _ _ c.in_err-feed_into.ensures.cause))
-
-pub returns-in-Err-clause-stay : goal.returns-in-Err-clause-stay
-returns-in-Err-clause-stay g c = prefix_itself c.args.events.now.items
-
-pub returns-in-Err-count_item-clause-stay : goal.returns-in-Err-count_item-clause-stay
-returns-in-Err-count_item-clause-stay g c = prefix_itself c.args.events.now.items
-
-pub returns-clause-took : goal.returns-clause-took
-returns-clause-took g c =
-    let is = slice_get_read c.args.self.now.seats.items _ c.args.actor c.index_mut.result.now refl c.requires.actor_in c.index_mut.ensures.value in
-    let after = get_set_same c.args.self.now.seats.items c.args.actor c.feed_into.new.seat c.requires.actor_in in
-    operator-took c.args.self.now _ c.args.actor 1 false c.requires.actor_in (length-set c.args.self.now.seats.items c.args.actor c.feed_into.new.seat)
-    (fed-sum c.args.self.now.wires (length c.args.self.now.seats.items) c.requires.flow.shaped c.args.actor c.requires.actor_in c.args.self.now.queues c.take_item.new.queues c.feed_into.new.queues c.args.port c.args.arc
-    c.requires.head.1.1 c.in-Ok.ensures.popped c.in-Ok.ensures.faces c.in_ok-feed_into.ensures.fed.onward.sent.apart)
-    (goes-on c.args.self.now.over _ _ c.index_mut.result.now c.feed_into.new.seat is after c.in_ok-feed_into.ensures.fed.fed.open_still c.requires.running)
-
-pub returns-clause-later : goal.returns-clause-later
-returns-clause-later g c = IsLater-trans _ _ _ c.in-Ok.ensures.later c.in_ok-feed_into.ensures.later
-
-pub returns-in_err-feed_into-clause-prefix : goal.returns-in_err-feed_into-clause-prefix
-returns-in_err-feed_into-clause-prefix g c =
-    let p = err_from_is_err_and c.from_residual.result c.from_residual.ensures.1 in
-    let is = slice_get_read c.args.self.now.seats.items _ c.args.actor c.index_mut.result.now refl c.requires.actor_in c.index_mut.ensures.value in
-    let was = slice_get_read c.args.self.now.seats.items _ c.args.actor c.index.result.now refl c.requires.actor_in c.index.ensures in
-    let same = same_Some c.index.result.now c.index_mut.result.now (sym was ∙ is) in
-    rw p.1
-    (fed-part _ c.args.self.now c.requires.flow c.args.actor c.requires.head.0 c.args.port c.args.arc c.arc-at.result.now c.in-Ok.item c.requires.actor_in c.requires.head.1 c.index_mut.result.now is c.arc-at.ensures
-    (known (g.D.PageDisk.log c.args.disk.now)) (known (g.D.PageDisk.log c.take_item.new.disk)) (known (g.D.PageDisk.log c.feed_into.new.disk)) c.take_item.new.queues c.args.events.now.items c.feed_into.new.events.items
-    c.requires.together c.in-Ok.ensures.later.known c.in_err-feed_into.ensures.later.known c.in-Ok.ensures.items c.in-Ok.ensures.others c.in_err-feed_into.ensures.part
-    (subst (λ z. MayBeFed c.arc-at.result.now c.args.port z.tally.place c.args.self.now.clock c.in-Ok.item) same c.in-Ok.ensures.may_be_fed) c.requires.running)
-
-pub returns-in_err-feed_into-clause-cost_err : goal.returns-in_err-feed_into-clause-cost_err
-returns-in_err-feed_into-clause-cost_err g c =
-    let p = err_from_is_err_and c.from_residual.result c.from_residual.ensures.1 in
-    rw p.1 (costs-none _ c.args.self.now c.requires.flow (known (g.D.PageDisk.log c.args.disk.now)) (known (g.D.PageDisk.log c.feed_into.new.disk)) c.args.self.now.levels c.args.steps.now c.feed_into.new.steps c.in_err-feed_into.ensures.no_cost)
-
-pub returns-in_err-feed_into-clause-stay : goal.returns-in_err-feed_into-clause-stay
-returns-in_err-feed_into-clause-stay g c = c.in_err-feed_into.ensures.part.shown.stay
-
-pub returns-clause-stay : goal.returns-clause-stay
-returns-clause-stay g c = c.in_ok-feed_into.ensures.fed.onward.shown.stay
-
-pub returns-in_err-feed_into-clause-plans : goal.returns-in_err-feed_into-clause-plans
-returns-in_err-feed_into-clause-plans g c =
-    let p = err_from_is_err_and c.from_residual.result c.from_residual.ensures.1 in
-    rw p.1 (plans-stay c.args.self.now c.args.events.now.items c.feed_into.new.events.items c.in_err-feed_into.ensures.part.shown.plans)
-
-pub returns-in_err-feed_into-clause-faults : goal.returns-in_err-feed_into-clause-faults
-returns-in_err-feed_into-clause-faults g c = le_trans c.in-Ok.ensures.faults c.in_err-feed_into.ensures.faults
-
-pub returns-in_err-feed_into-clause-later : goal.returns-in_err-feed_into-clause-later
-returns-in_err-feed_into-clause-later g c = IsLater-trans _ _ _ c.in-Ok.ensures.later c.in_err-feed_into.ensures.later
-
-pub returns-in_err-feed_into-clause-closes : goal.returns-in_err-feed_into-clause-closes
-returns-in_err-feed_into-clause-closes g c = λ table agrees. agrees
-
-pub returns-clause-closes : goal.returns-clause-closes
-returns-clause-closes g c = λ table agrees. agrees
-
-pub returns-clause-faults : goal.returns-clause-faults
-returns-clause-faults g c = le_trans c.in-Ok.ensures.faults c.in_ok-feed_into.ensures.faults
-
-pub returns-in-Err-clause-prefix : goal.returns-in-Err-clause-prefix
-returns-in-Err-clause-prefix g c =
-    lines-stay _ (known (g.D.PageDisk.log c.args.disk.now)) (known (g.D.PageDisk.log c.take_item.new.disk)) c.args.self.now c.args.self.now.levels c.args.events.now.items c.args.events.now.items (λ o. refl) (λ w. refl)
-
-pub returns-in-Err-clause-plans : goal.returns-in-Err-clause-plans
-returns-in-Err-clause-plans g c = plans-stay c.args.self.now c.args.events.now.items c.args.events.now.items refl
-
-pub returns-in-Err-clause-faults : goal.returns-in-Err-clause-faults
-returns-in-Err-clause-faults g c = c.in-Err.ensures.faults
-
-pub returns-in-Err-clause-later : goal.returns-in-Err-clause-later
-returns-in-Err-clause-later g c = c.in-Err.ensures.later
-
-pub returns-in-Err-clause-too_much : goal.returns-in-Err-clause-too_much
-returns-in-Err-clause-too_much g c = none-too-much _ _ _ _ _ _ c.in-Err.ensures.memory
-
-pub returns-in-Err-clause-closes : goal.returns-in-Err-clause-closes
-returns-in-Err-clause-closes g c = λ table agrees. agrees
-
-pub returns-in-Err-count_item-clause-prefix : goal.returns-in-Err-count_item-clause-prefix
-returns-in-Err-count_item-clause-prefix g c =
-    lines-stay _ (known (g.D.PageDisk.log c.args.disk.now)) (known (g.D.PageDisk.log c.take_item.new.disk)) c.args.self.now c.args.self.now.levels c.args.events.now.items c.args.events.now.items (λ o. refl) (λ w. refl)
-
-pub returns-in-Err-count_item-clause-plans : goal.returns-in-Err-count_item-clause-plans
-returns-in-Err-count_item-clause-plans g c = plans-stay c.args.self.now c.args.events.now.items c.args.events.now.items refl
-
-pub returns-in-Err-count_item-clause-strange : goal.returns-in-Err-count_item-clause-strange
-returns-in-Err-count_item-clause-strange g c = λ told table agrees holds. rw c.in-Err-count_item.ensures.err tt
-
-pub returns-in-Err-count_item-clause-faults : goal.returns-in-Err-count_item-clause-faults
-returns-in-Err-count_item-clause-faults g c = c.in-Ok.ensures.faults
-
-pub returns-in-Err-count_item-clause-later : goal.returns-in-Err-count_item-clause-later
-returns-in-Err-count_item-clause-later g c = c.in-Ok.ensures.later
-
-pub returns-in-Err-count_item-clause-closes : goal.returns-in-Err-count_item-clause-closes
-returns-in-Err-count_item-clause-closes g c = λ table agrees. agrees
 
 -- an earlier time is of no later epoch
 epochs-climb : (time clock epoch : ℕ) → time ≤ clock → time / epoch ≤ clock / epoch

@@ -14,96 +14,18 @@ use Rattle.sq_flow.specs.Flows.{tuples_to_come}
 use Rattle.sq_flow.specs.Sources.{BeginsLeast, IsNextSource}
 use Rattle.sq_flow.proofs.WireLemmas.{arcs-open}
 use Rattle.sq_flow.proofs.PlanLemmas.{few-each}
-use Rattle.sq_flow.proofs.CauseLemmas.{cause-in, counts-none, feeds-none}
+use Rattle.sq_flow.proofs.CauseLemmas.{cause-in, counts-none, feeds-none, none-too-much}
 use Rattle.sq_flow.proofs.ReleasedPlans.{ClosedBefore, agrees-before, in-time, sound, not-before, closed-len, closed-low, mid-len, plans-front, plans-none, plans-stay}
 use Rattle.sq_flow.proofs.ReplayFlow.{replay-open, replay-runs, item-sound, released-stepped, released-touches, lines-stay, count-less}
 use Rattle.sq_flow.proofs.TookLemmas.{replay-took}
+use Rattle.sq_flow.proofs.FedFlow.{costs-none}
+use Rattle.sq_flow.proofs.SteppingLemmas.{fails-here}
 use Rattle.sq_flow.proofs.flow.Flow.release_step.Goals as goal
 use Rattle.sq_words.proofs.Prefixes.{prefix_itself}
 
 -- the epoch that was told is the tuple's by the length that the levels have
 next-is : (time len epoch next : ℕ) → next ≡ time / len → len ≡ epoch → next ≡ time / epoch
 next-is time len epoch next told same = told ∙ ap (λ n. time / n) same
-
-pub returns-in_err-tuple-clause-prefix : goal.returns-in_err-tuple-clause-prefix
-returns-in_err-tuple-clause-prefix g c =
-    let p = err_from_is_err_and c.from_residual.result c.from_residual.ensures.1 in
-    rw p.1 (lines-stay _ (known (g.D.PageDisk.log c.args.disk.now)) (known (g.D.PageDisk.log c.args.disk.now)) c.args.self.now c.args.self.now.levels c.args.events.now.items c.args.events.now.items (λ o. refl) (λ w. refl))
-
-pub returns-in_err-tuple-clause-plans : goal.returns-in_err-tuple-clause-plans
-returns-in_err-tuple-clause-plans g c =
-    let p = err_from_is_err_and c.from_residual.result c.from_residual.ensures.1 in
-    rw p.1 (plans-stay c.args.self.now c.args.events.now.items c.args.events.now.items refl)
-
-pub returns-in_err-tuple-clause-stay : goal.returns-in_err-tuple-clause-stay
-returns-in_err-tuple-clause-stay g c = prefix_itself c.args.events.now.items
-
-pub returns-in_err-close_before-clause-prefix : goal.returns-in_err-close_before-clause-prefix
-returns-in_err-close_before-clause-prefix g c =
-    let p = err_from_is_err_and c.from_residual-in_err-close_before.result c.from_residual-in_err-close_before.ensures.1 in
-    rw p.1 (lines-stay _ (known (g.D.PageDisk.log c.args.disk.now)) (known (g.D.PageDisk.log c.args.disk.now)) c.args.self.now c.close_before.new.levels c.args.events.now.items c.close_before.new.events.items c.in_err-close_before.ensures.lines c.in_err-close_before.ensures.drops)
-
-pub returns-in_err-close_before-clause-plans : goal.returns-in_err-close_before-clause-plans
-returns-in_err-close_before-clause-plans g c =
-    let sources = c.args.self.now.sources.items in
-    let at = slice_get_read sources _ c.args.source c.index_mut.result.now refl c.requires.next.there c.index_mut.ensures.value in
-    let pos : 0 < c.args.self.now.levels.epoch = omega (arith, c.epoch.ensures.epoch, c.epoch.ensures.lasts) in
-    let next_is = next-is _ _ _ _ c.epoch_of-next.ensures c.epoch.ensures.epoch in
-    let p = err_from_is_err_and c.from_residual-in_err-close_before.result c.from_residual-in_err-close_before.ensures.1 in
-    rw p.1
-    (plans-none _ c.args.self.now c.requires.flow pos c.args.source c.index_mut.result.now c.first_of.new.stream c.in_ok-tuple.tuple c.requires.next at c.in_ok-tuple.ensures.ok c.close_before.new.levels c.args.events.now.items c.close_before.new.events.items
-    (λ all. subst (λ (n : ℕ). (c.args.self.now.levels.closed < n + 1 → Ended all (c.args.self.now.levels.closed - 1) n c.args.self.now.counts.items)
-    → AgreesWith c.args.self.now.levels (level_for c.args.self.now.planner all) → AgreesWith c.close_before.new.levels (level_for c.args.self.now.planner all)) next_is (c.in_err-close_before.ensures.agrees all))
-    c.in_err-close_before.ensures.err)
-
-pub send_one-requires-clause-there : goal.send_one-requires-clause-there
-send_one-requires-clause-there g c =
-    let sources = c.args.self.now.sources.items in
-    let at = slice_get_read sources _ c.args.source c.index_mut.result.now refl c.requires.next.there c.index_mut.ensures.value in
-    let pos : 0 < c.args.self.now.levels.epoch = omega (arith, c.epoch.ensures.epoch, c.epoch.ensures.lasts) in
-    arcs-open _ c.args.self.now c.requires.flow c.args.self.now.wires.replay
-    (replay-open _ c.args.self.now c.requires.flow (replay-runs _ c.args.self.now c.requires.flow pos c.args.source c.index_mut.result.now c.first_of.new.stream c.in_ok-tuple.tuple c.requires.next at c.in_ok-tuple.ensures.ok)) c.args.source
-
-pub send_one-requires-clause-sound : goal.send_one-requires-clause-sound
-send_one-requires-clause-sound g c =
-    let sources = c.args.self.now.sources.items in
-    let at = slice_get_read sources _ c.args.source c.index_mut.result.now refl c.requires.next.there c.index_mut.ensures.value in
-    let pos : 0 < c.args.self.now.levels.epoch = omega (arith, c.epoch.ensures.epoch, c.epoch.ensures.lasts) in
-    rw (c.none.ensures, c.some.ensures)
-    (item-sound _ c.args.self.now c.requires.flow pos c.args.source c.index_mut.result.now c.first_of.new.stream c.in_ok-tuple.tuple c.requires.next at c.in_ok-tuple.ensures.ok)
-
-pub returns-in-Err-clause-prefix : goal.returns-in-Err-clause-prefix
-returns-in-Err-clause-prefix g c =
-    lines-stay _ (known (g.D.PageDisk.log c.args.disk.now)) (known (g.D.PageDisk.log c.send_one.new.disk)) c.args.self.now c.close_before.new.levels c.args.events.now.items c.close_before.new.events.items c.in_ok-close_before.ensures.lines c.in_ok-close_before.ensures.drops
-
-pub returns-in-Err-clause-plans : goal.returns-in-Err-clause-plans
-returns-in-Err-clause-plans g c =
-    let sources = c.args.self.now.sources.items in
-    let at = slice_get_read sources _ c.args.source c.index_mut.result.now refl c.requires.next.there c.index_mut.ensures.value in
-    let pos : 0 < c.args.self.now.levels.epoch = omega (arith, c.epoch.ensures.epoch, c.epoch.ensures.lasts) in
-    let next_is = next-is _ _ _ _ c.epoch_of-next.ensures c.epoch.ensures.epoch in
-    let done = c.in_ok-close_before.ensures in
-    let did = subst (λ (n : ℕ). ClosedBefore c.args.self.now.planner c.close_before.new.planner c.args.self.now.levels c.close_before.new.levels c.args.self.now.counts.items c.close_before.new.counts.items
-    n c.args.events.now.items c.close_before.new.events.items) next_is
-    (record {
-      same = done.same;
-      epoch = done.epoch;
-      closed = done.closed;
-      keeps = done.keeps;
-      counts = done.counts;
-      agrees = done.agrees;
-      plans = done.plans;
-      lines = done.lines;
-      drops = done.drops;
-      within = done.within;
-    }) in
-    let len = mid-len _ c.args.self.now c.requires.flow pos c.args.source c.index_mut.result.now c.first_of.new.stream c.in_ok-tuple.tuple c.requires.next at c.in_ok-tuple.ensures.ok _ _ _ _ _ did in
-    let within : c.args.source < length c.close_before.new.counts.items = omega (arith, len, c.requires.flow.replay.counted, c.requires.next.there) in
-    let read = get_or_from_slice_get c.close_before.new.counts.items c.args.source c.index_mut-2.result.now 0
-    (slice_get_read c.close_before.new.counts.items _ c.args.source c.index_mut-2.result.now refl within c.index_mut-2.ensures.value) in
-    let counted = ap (λ n. set c.close_before.new.counts.items c.args.source (n + 1)) (sym read) in
-    plans-front _ c.args.self.now c.requires.flow pos c.args.source c.index_mut.result.now c.first_of.new.stream c.in_ok-tuple.tuple c.requires.next at c.in_ok-tuple.ensures.ok _ _ _ _ _ did
-    c.send_one.new.queues (with_item c.args.self.now.sources c.args.source c.first_of.new.stream) (with_item c.close_before.new.counts c.args.source (c.index_mut-2.result.now + 1)) refl counted
 
 pub returns-in-Ok-clause-ok : goal.returns-in-Ok-clause-ok
 returns-in-Ok-clause-ok g c =
@@ -131,132 +53,123 @@ returns-in-Ok-clause-ok g c =
     let read = get_or_from_slice_get c.close_before.new.counts.items c.args.source c.index_mut-2.result.now 0
     (slice_get_read c.close_before.new.counts.items _ c.args.source c.index_mut-2.result.now refl within c.index_mut-2.ensures.value) in
     let counted = ap (λ n. set c.close_before.new.counts.items c.args.source (n + 1)) (sym read) in
-    released-stepped _ c.args.self.now c.requires.flow pos c.args.source c.index_mut.result.now c.first_of.new.stream c.in_ok-tuple.tuple c.requires.next at c.in_ok-tuple.ensures.ok _ _ _ _ _ did
-    (with_item c.args.self.now.sources c.args.source c.first_of.new.stream) (with_item c.close_before.new.counts c.args.source (c.index_mut-2.result.now + 1)) refl counted
-    (known (g.D.PageDisk.log c.args.disk.now)) (known (g.D.PageDisk.log c.send_one.new.disk)) c.send_one.new.queues c.requires.together (rw (c.none.ensures, c.some.ensures) at c.in-Ok.ensures.sent)
-
-pub returns-in-Ok-clause-touches : goal.returns-in-Ok-clause-touches
-returns-in-Ok-clause-touches g c =
-    let sources = c.args.self.now.sources.items in
-    let at = slice_get_read sources _ c.args.source c.index_mut.result.now refl c.requires.next.there c.index_mut.ensures.value in
-    let pos : 0 < c.args.self.now.levels.epoch = omega (arith, c.epoch.ensures.epoch, c.epoch.ensures.lasts) in
-    released-touches _ c.args.self.now c.requires.flow pos c.args.source c.index_mut.result.now c.first_of.new.stream c.in_ok-tuple.tuple c.requires.next at c.in_ok-tuple.ensures.ok
-    (known (g.D.PageDisk.log c.args.disk.now)) (known (g.D.PageDisk.log c.send_one.new.disk)) c.send_one.new.queues (with_item c.args.self.now.sources c.args.source c.first_of.new.stream) c.close_before.new.planner c.close_before.new.levels
-    (with_item c.close_before.new.counts c.args.source (c.index_mut-2.result.now + 1)) (rw (c.none.ensures, c.some.ensures) at c.in-Ok.ensures.sent)
-
-pub returns-in-Ok-clause-measure : goal.returns-in-Ok-clause-measure
-returns-in-Ok-clause-measure g c =
-    let sources = c.args.self.now.sources.items in
-    let at = slice_get_read sources _ c.args.source c.index_mut.result.now refl c.requires.next.there c.index_mut.ensures.value in
     let less = count-less sources c.args.source c.index_mut.result.now c.first_of.new.stream c.in_ok-tuple.tuple at c.in_ok-tuple.ensures.ok in
-    omega (arith, less)
+    λ n. record {
+      moves = record {
+          stepped =
+              released-stepped _ c.args.self.now c.requires.flow pos c.args.source c.index_mut.result.now c.first_of.new.stream c.in_ok-tuple.tuple c.requires.next at c.in_ok-tuple.ensures.ok _ _ _ _ _ did
+              (with_item c.args.self.now.sources c.args.source c.first_of.new.stream) (with_item c.close_before.new.counts c.args.source (c.index_mut-2.result.now + 1)) refl counted
+              (known (g.D.PageDisk.log c.args.disk.now)) (known (g.D.PageDisk.log c.send_one.new.disk)) c.send_one.new.queues c.requires.together (rw (c.none.ensures, c.some.ensures) at c.in-Ok.ensures.sent);
+          keeps = record { faults = c.in-Ok.ensures.faults; later = c.in-Ok.ensures.later; stay = c.in_ok-close_before.ensures.stay };
+          touches =
+              released-touches _ c.args.self.now c.requires.flow pos c.args.source c.index_mut.result.now c.first_of.new.stream c.in_ok-tuple.tuple c.requires.next at c.in_ok-tuple.ensures.ok
+              (known (g.D.PageDisk.log c.args.disk.now)) (known (g.D.PageDisk.log c.send_one.new.disk)) c.send_one.new.queues (with_item c.args.self.now.sources c.args.source c.first_of.new.stream) c.close_before.new.planner c.close_before.new.levels
+              (with_item c.close_before.new.counts c.args.source (c.index_mut-2.result.now + 1)) (rw (c.none.ensures, c.some.ensures) at c.in-Ok.ensures.sent);
+          cost = refl;
+      };
+      lowers = omega (arith, less);
+      took =
+          replay-took c.args.self.now _ 1 false refl less
+          (sym (replay-runs _ c.args.self.now c.requires.flow pos c.args.source c.index_mut.result.now c.first_of.new.stream c.in_ok-tuple.tuple c.requires.next at c.in_ok-tuple.ensures.ok));
+      waits = tt;
+    }
 
-pub returns-in-Err-clause-cause : goal.returns-in-Err-clause-cause
-returns-in-Err-clause-cause g c =
-    rw (c.fault_of.ensures, c.take.ensures.value) (cause-in _ _ _ _ _ _ c.in-Err.ensures.cause)
+pub returns-in_err-tuple-clause-err : goal.returns-in_err-tuple-clause-err
+returns-in_err-tuple-clause-err g c =
+    let p = err_from_is_err_and c.from_residual.result c.from_residual.ensures.1 in
+    rw (p.1, p.2)
+    (λ n. record {
+      keeps = record { faults = le_refl _; later = IsLater-refl _; stay = prefix_itself _ };
+      closes = λ table agrees. agrees;
+      prefix = lines-stay _ (known (g.D.PageDisk.log c.args.disk.now)) (known (g.D.PageDisk.log c.args.disk.now)) c.args.self.now c.args.self.now.levels c.args.events.now.items c.args.events.now.items (λ o. refl) (λ w. refl);
+      plans = plans-stay c.args.self.now c.args.events.now.items c.args.events.now.items refl;
+      strange = λ told table agrees holds. tt;
+      cause = tt;
+      feed = fails-here _ _ _ _ _ _ _ c.requires.flow c.requires.together (IsLater-refl _) tt;
+      cost = costs-none _ c.args.self.now c.requires.flow (known (g.D.PageDisk.log c.args.disk.now)) (known (g.D.PageDisk.log c.args.disk.now)) c.args.self.now.levels n n refl;
+      too_much = none-too-much _ _ _ _ _ _ (λ same. cc same);
+    })
 
-pub returns-in-Err-clause-feed : goal.returns-in-Err-clause-feed
-returns-in-Err-clause-feed g c =
-    rw (c.fault_of.ensures, c.take.ensures.value) (feeds-none _ _ _ _ _ _ _ _ _ _ c.in-Err.ensures.cause)
-
-pub returns-in-Err-clause-strange : goal.returns-in-Err-clause-strange
-returns-in-Err-clause-strange g c =
-    rw (c.fault_of.ensures, c.take.ensures.value) (λ told table agrees holds. c.in-Err.ensures.honest told)
-
-pub returns-in-Err-clause-memory : goal.returns-in-Err-clause-memory
-returns-in-Err-clause-memory g c =
-    rw (c.fault_of.ensures, c.take.ensures.value) (counts-none _ _ _ _ _ _ c.in-Err.ensures.cause)
-
-pub returns-in-Ok-clause-took : goal.returns-in-Ok-clause-took
-returns-in-Ok-clause-took g c =
+pub returns-in_err-close_before-clause-err : goal.returns-in_err-close_before-clause-err
+returns-in_err-close_before-clause-err g c =
+    let p = err_from_is_err_and c.from_residual-in_err-close_before.result c.from_residual-in_err-close_before.ensures.1 in
     let sources = c.args.self.now.sources.items in
     let at = slice_get_read sources _ c.args.source c.index_mut.result.now refl c.requires.next.there c.index_mut.ensures.value in
     let pos : 0 < c.args.self.now.levels.epoch = omega (arith, c.epoch.ensures.epoch, c.epoch.ensures.lasts) in
-    replay-took c.args.self.now _ 1 false refl (count-less sources c.args.source c.index_mut.result.now c.first_of.new.stream c.in_ok-tuple.tuple at c.in_ok-tuple.ensures.ok)
-    (sym (replay-runs _ c.args.self.now c.requires.flow pos c.args.source c.index_mut.result.now c.first_of.new.stream c.in_ok-tuple.tuple c.requires.next at c.in_ok-tuple.ensures.ok))
+    let next_is = next-is _ _ _ _ c.epoch_of-next.ensures c.epoch.ensures.epoch in
+    rw (p.1, p.2)
+    (λ n. record {
+      keeps = record { faults = le_refl _; later = IsLater-refl _; stay = c.in_err-close_before.ensures.stay };
+      closes = agrees-before c.args.self.now.levels c.close_before.new.levels c.in_err-close_before.ensures.keeps c.in_err-close_before.ensures.grows;
+      prefix = lines-stay _ (known (g.D.PageDisk.log c.args.disk.now)) (known (g.D.PageDisk.log c.args.disk.now)) c.args.self.now c.close_before.new.levels c.args.events.now.items c.close_before.new.events.items c.in_err-close_before.ensures.lines c.in_err-close_before.ensures.drops;
+      plans =
+          plans-none _ c.args.self.now c.requires.flow pos c.args.source c.index_mut.result.now c.first_of.new.stream c.in_ok-tuple.tuple c.requires.next at c.in_ok-tuple.ensures.ok c.close_before.new.levels c.args.events.now.items c.close_before.new.events.items
+          (λ all. subst (λ (n : ℕ). (c.args.self.now.levels.closed < n + 1 → Ended all (c.args.self.now.levels.closed - 1) n c.args.self.now.counts.items)
+          → AgreesWith c.args.self.now.levels (level_for c.args.self.now.planner all) → AgreesWith c.close_before.new.levels (level_for c.args.self.now.planner all)) next_is (c.in_err-close_before.ensures.agrees all))
+          c.in_err-close_before.ensures.err;
+      strange = λ told table agrees holds. tt;
+      cause = tt;
+      feed = fails-here _ _ _ _ _ _ _ c.requires.flow c.requires.together (IsLater-refl _) tt;
+      cost = costs-none _ c.args.self.now c.requires.flow (known (g.D.PageDisk.log c.args.disk.now)) (known (g.D.PageDisk.log c.args.disk.now)) c.close_before.new.levels n n refl;
+      too_much = none-too-much _ _ _ _ _ _ (λ same. cc same);
+    })
 
-pub returns-in_err-tuple-clause-strange : goal.returns-in_err-tuple-clause-strange
-returns-in_err-tuple-clause-strange g c =
-    let p = err_from_is_err_and c.from_residual.result c.from_residual.ensures.1 in rw (p.1, p.2) (λ told table agrees holds. tt)
+pub returns-in-Err-clause-err : goal.returns-in-Err-clause-err
+returns-in-Err-clause-err g c =
+    let sources = c.args.self.now.sources.items in
+    let at = slice_get_read sources _ c.args.source c.index_mut.result.now refl c.requires.next.there c.index_mut.ensures.value in
+    let pos : 0 < c.args.self.now.levels.epoch = omega (arith, c.epoch.ensures.epoch, c.epoch.ensures.lasts) in
+    let next_is = next-is _ _ _ _ c.epoch_of-next.ensures c.epoch.ensures.epoch in
+    let done = c.in_ok-close_before.ensures in
+    let did = subst (λ (n : ℕ). ClosedBefore c.args.self.now.planner c.close_before.new.planner c.args.self.now.levels c.close_before.new.levels c.args.self.now.counts.items c.close_before.new.counts.items
+    n c.args.events.now.items c.close_before.new.events.items) next_is
+    (record {
+      same = done.same;
+      epoch = done.epoch;
+      closed = done.closed;
+      keeps = done.keeps;
+      counts = done.counts;
+      agrees = done.agrees;
+      plans = done.plans;
+      lines = done.lines;
+      drops = done.drops;
+      within = done.within;
+    }) in
+    let len = mid-len _ c.args.self.now c.requires.flow pos c.args.source c.index_mut.result.now c.first_of.new.stream c.in_ok-tuple.tuple c.requires.next at c.in_ok-tuple.ensures.ok _ _ _ _ _ did in
+    let within : c.args.source < length c.close_before.new.counts.items = omega (arith, len, c.requires.flow.replay.counted, c.requires.next.there) in
+    let read = get_or_from_slice_get c.close_before.new.counts.items c.args.source c.index_mut-2.result.now 0
+    (slice_get_read c.close_before.new.counts.items _ c.args.source c.index_mut-2.result.now refl within c.index_mut-2.ensures.value) in
+    let counted = ap (λ n. set c.close_before.new.counts.items c.args.source (n + 1)) (sym read) in
+    rw (c.fault_of.ensures, c.take.ensures.value)
+    (λ n. record {
+      keeps = record { faults = c.in-Err.ensures.faults; later = c.in-Err.ensures.later; stay = c.in_ok-close_before.ensures.stay };
+      closes = agrees-before c.args.self.now.levels c.close_before.new.levels c.in_ok-close_before.ensures.keeps c.in_ok-close_before.ensures.grows;
+      prefix = lines-stay _ (known (g.D.PageDisk.log c.args.disk.now)) (known (g.D.PageDisk.log c.send_one.new.disk)) c.args.self.now c.close_before.new.levels c.args.events.now.items c.close_before.new.events.items c.in_ok-close_before.ensures.lines c.in_ok-close_before.ensures.drops;
+      plans =
+          plans-front _ c.args.self.now c.requires.flow pos c.args.source c.index_mut.result.now c.first_of.new.stream c.in_ok-tuple.tuple c.requires.next at c.in_ok-tuple.ensures.ok _ _ _ _ _ did
+          c.send_one.new.queues (with_item c.args.self.now.sources c.args.source c.first_of.new.stream) (with_item c.close_before.new.counts c.args.source (c.index_mut-2.result.now + 1)) refl counted;
+      strange = λ told table agrees holds. c.in-Err.ensures.honest told;
+      cause = cause-in _ _ _ _ _ _ c.in-Err.ensures.cause;
+      feed = fails-here _ _ _ _ _ _ _ c.requires.flow c.requires.together c.in-Err.ensures.later (feeds-none _ _ _ _ _ _ _ _ _ _ c.in-Err.ensures.cause);
+      cost = costs-none _ c.args.self.now c.requires.flow (known (g.D.PageDisk.log c.args.disk.now)) (known (g.D.PageDisk.log c.send_one.new.disk)) c.close_before.new.levels n n refl;
+      too_much = none-too-much _ _ _ _ _ _ (counts-none _ _ _ _ _ _ c.in-Err.ensures.cause);
+    })
 
-pub returns-in_err-tuple-clause-cause : goal.returns-in_err-tuple-clause-cause
-returns-in_err-tuple-clause-cause g c =
-    let p = err_from_is_err_and c.from_residual.result c.from_residual.ensures.1 in rw (p.1, p.2) tt
+pub send_one-requires-clause-there : goal.send_one-requires-clause-there
+send_one-requires-clause-there g c =
+    let sources = c.args.self.now.sources.items in
+    let at = slice_get_read sources _ c.args.source c.index_mut.result.now refl c.requires.next.there c.index_mut.ensures.value in
+    let pos : 0 < c.args.self.now.levels.epoch = omega (arith, c.epoch.ensures.epoch, c.epoch.ensures.lasts) in
+    arcs-open _ c.args.self.now c.requires.flow c.args.self.now.wires.replay
+    (replay-open _ c.args.self.now c.requires.flow (replay-runs _ c.args.self.now c.requires.flow pos c.args.source c.index_mut.result.now c.first_of.new.stream c.in_ok-tuple.tuple c.requires.next at c.in_ok-tuple.ensures.ok)) c.args.source
 
-pub returns-in_err-tuple-clause-feed : goal.returns-in_err-tuple-clause-feed
-returns-in_err-tuple-clause-feed g c =
-    let p = err_from_is_err_and c.from_residual.result c.from_residual.ensures.1 in rw (p.1, p.2) tt
-
-pub returns-in_err-tuple-clause-faults : goal.returns-in_err-tuple-clause-faults
-returns-in_err-tuple-clause-faults g c = le_refl _
-
-pub returns-in_err-tuple-clause-later : goal.returns-in_err-tuple-clause-later
-returns-in_err-tuple-clause-later g c = IsLater-refl _
-
-pub returns-in_err-tuple-clause-memory : goal.returns-in_err-tuple-clause-memory
-returns-in_err-tuple-clause-memory g c =
-    let p = err_from_is_err_and c.from_residual.result c.from_residual.ensures.1 in rw (p.1, p.2) (λ same. cc same)
-
-pub returns-in_err-tuple-clause-closes : goal.returns-in_err-tuple-clause-closes
-returns-in_err-tuple-clause-closes g c = λ table agrees. agrees
-
-pub returns-in_err-close_before-clause-strange : goal.returns-in_err-close_before-clause-strange
-returns-in_err-close_before-clause-strange g c =
-    let p = err_from_is_err_and c.from_residual-in_err-close_before.result c.from_residual-in_err-close_before.ensures.1 in rw (p.1, p.2) (λ told table agrees holds. tt)
-
-pub returns-in_err-close_before-clause-cause : goal.returns-in_err-close_before-clause-cause
-returns-in_err-close_before-clause-cause g c =
-    let p = err_from_is_err_and c.from_residual-in_err-close_before.result c.from_residual-in_err-close_before.ensures.1 in rw (p.1, p.2) tt
-
-pub returns-in_err-close_before-clause-feed : goal.returns-in_err-close_before-clause-feed
-returns-in_err-close_before-clause-feed g c =
-    let p = err_from_is_err_and c.from_residual-in_err-close_before.result c.from_residual-in_err-close_before.ensures.1 in rw (p.1, p.2) tt
-
-pub returns-in_err-close_before-clause-faults : goal.returns-in_err-close_before-clause-faults
-returns-in_err-close_before-clause-faults g c = le_refl _
-
-pub returns-in_err-close_before-clause-later : goal.returns-in_err-close_before-clause-later
-returns-in_err-close_before-clause-later g c = IsLater-refl _
-
-pub returns-in_err-close_before-clause-memory : goal.returns-in_err-close_before-clause-memory
-returns-in_err-close_before-clause-memory g c =
-    let p = err_from_is_err_and c.from_residual-in_err-close_before.result c.from_residual-in_err-close_before.ensures.1 in rw (p.1, p.2) (λ same. cc same)
-
-pub returns-in_err-close_before-clause-closes : goal.returns-in_err-close_before-clause-closes
-returns-in_err-close_before-clause-closes g c =
-    agrees-before c.args.self.now.levels c.close_before.new.levels c.in_err-close_before.ensures.keeps c.in_err-close_before.ensures.grows
-
-pub returns-in_err-close_before-clause-stay : goal.returns-in_err-close_before-clause-stay
-returns-in_err-close_before-clause-stay g c = c.in_err-close_before.ensures.stay
-
-pub returns-in-Err-clause-faults : goal.returns-in-Err-clause-faults
-returns-in-Err-clause-faults g c = c.in-Err.ensures.faults
-
-pub returns-in-Err-clause-later : goal.returns-in-Err-clause-later
-returns-in-Err-clause-later g c = c.in-Err.ensures.later
-
-pub returns-in-Err-clause-closes : goal.returns-in-Err-clause-closes
-returns-in-Err-clause-closes g c =
-    agrees-before c.args.self.now.levels c.close_before.new.levels c.in_ok-close_before.ensures.keeps c.in_ok-close_before.ensures.grows
-
-pub returns-in-Err-clause-stay : goal.returns-in-Err-clause-stay
-returns-in-Err-clause-stay g c = c.in_ok-close_before.ensures.stay
-
-pub returns-in-Ok-clause-faults : goal.returns-in-Ok-clause-faults
-returns-in-Ok-clause-faults g c = c.in-Ok.ensures.faults
-
-pub returns-in-Ok-clause-later : goal.returns-in-Ok-clause-later
-returns-in-Ok-clause-later g c = c.in-Ok.ensures.later
-
-pub returns-in-Ok-clause-closes : goal.returns-in-Ok-clause-closes
-returns-in-Ok-clause-closes g c =
-    agrees-before c.args.self.now.levels c.close_before.new.levels c.in_ok-close_before.ensures.keeps c.in_ok-close_before.ensures.grows
-
-pub returns-in-Ok-clause-taken : goal.returns-in-Ok-clause-taken
-returns-in-Ok-clause-taken g c = refl
-
-pub returns-in-Ok-clause-stay : goal.returns-in-Ok-clause-stay
-returns-in-Ok-clause-stay g c = c.in_ok-close_before.ensures.stay
+pub send_one-requires-clause-sound : goal.send_one-requires-clause-sound
+send_one-requires-clause-sound g c =
+    let sources = c.args.self.now.sources.items in
+    let at = slice_get_read sources _ c.args.source c.index_mut.result.now refl c.requires.next.there c.index_mut.ensures.value in
+    let pos : 0 < c.args.self.now.levels.epoch = omega (arith, c.epoch.ensures.epoch, c.epoch.ensures.lasts) in
+    rw (c.none.ensures, c.some.ensures)
+    (item-sound _ c.args.self.now c.requires.flow pos c.args.source c.index_mut.result.now c.first_of.new.stream c.in_ok-tuple.tuple c.requires.next at c.in_ok-tuple.ensures.ok)
 
 -- something is left of the source that releases next
 some-left : (sources : List Recorded) (source : ℕ) (v : Recorded) → IsNextSource sources source → slice_get sources source ≡ Some v → 0 < length v.items
@@ -322,36 +235,6 @@ close_before-requires-clause-fits g c =
     let pos : 0 < c.args.self.now.levels.epoch = omega (arith, c.epoch.ensures.epoch, c.epoch.ensures.lasts) in
     let low = (in-time _ c.args.self.now c.requires.flow pos c.args.source c.index_mut.result.now c.first_of.new.stream c.in_ok-tuple.tuple c.requires.next at c.in_ok-tuple.ensures.ok).1 in
     omega (arith, low, c.epoch_of-next.ensures, div-le_self c.in_ok-tuple.tuple.time c.epoch.result)
-
-pub returns-in_err-tuple-clause-ok : goal.returns-in_err-tuple-clause-ok
-returns-in_err-tuple-clause-ok g c = let p = err_from_is_err_and c.from_residual.result c.from_residual.ensures.1 in rw p.1 tt
-
-pub returns-in_err-tuple-clause-touches : goal.returns-in_err-tuple-clause-touches
-returns-in_err-tuple-clause-touches g c = let p = err_from_is_err_and c.from_residual.result c.from_residual.ensures.1 in rw p.1 tt
-
-pub returns-in_err-tuple-clause-taken : goal.returns-in_err-tuple-clause-taken
-returns-in_err-tuple-clause-taken g c = let p = err_from_is_err_and c.from_residual.result c.from_residual.ensures.1 in rw p.1 tt
-
-pub returns-in_err-tuple-clause-measure : goal.returns-in_err-tuple-clause-measure
-returns-in_err-tuple-clause-measure g c = let p = err_from_is_err_and c.from_residual.result c.from_residual.ensures.1 in rw p.1 tt
-
-pub returns-in_err-tuple-clause-took : goal.returns-in_err-tuple-clause-took
-returns-in_err-tuple-clause-took g c = let p = err_from_is_err_and c.from_residual.result c.from_residual.ensures.1 in rw p.1 tt
-
-pub returns-in_err-close_before-clause-ok : goal.returns-in_err-close_before-clause-ok
-returns-in_err-close_before-clause-ok g c = let p = err_from_is_err_and c.from_residual-in_err-close_before.result c.from_residual-in_err-close_before.ensures.1 in rw p.1 tt
-
-pub returns-in_err-close_before-clause-touches : goal.returns-in_err-close_before-clause-touches
-returns-in_err-close_before-clause-touches g c = let p = err_from_is_err_and c.from_residual-in_err-close_before.result c.from_residual-in_err-close_before.ensures.1 in rw p.1 tt
-
-pub returns-in_err-close_before-clause-taken : goal.returns-in_err-close_before-clause-taken
-returns-in_err-close_before-clause-taken g c = let p = err_from_is_err_and c.from_residual-in_err-close_before.result c.from_residual-in_err-close_before.ensures.1 in rw p.1 tt
-
-pub returns-in_err-close_before-clause-measure : goal.returns-in_err-close_before-clause-measure
-returns-in_err-close_before-clause-measure g c = let p = err_from_is_err_and c.from_residual-in_err-close_before.result c.from_residual-in_err-close_before.ensures.1 in rw p.1 tt
-
-pub returns-in_err-close_before-clause-took : goal.returns-in_err-close_before-clause-took
-returns-in_err-close_before-clause-took g c = let p = err_from_is_err_and c.from_residual-in_err-close_before.result c.from_residual-in_err-close_before.ensures.1 in rw p.1 tt
 
 pub some-requires : goal.some-requires
 some-requires g c =

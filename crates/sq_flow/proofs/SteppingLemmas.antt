@@ -1,0 +1,155 @@
+-- A step, and a train as one step after another.
+use Rattle.std.proofs.Common.{◌≡◌, ℕ, ◌+◌, ◌≤◌, true, false, le_refl, le_trans, refl, subst, sym, arith, inl, inr}
+use Rattle.std.specs.Prelude.{List, Result, Ok, Err, IfOk, IfErr, slice_get}
+use Rattle.sq_outside.specs.Disks.{DiskLog}
+use Rattle.sq_oper.specs.declared.operator.Operator.{Ghosts}
+use Rattle.sq_oper.specs.declared.outs.Event.{Event}
+use Rattle.sq_pool.specs.Trust.{IsLater, known}
+use Rattle.sq_pool.proofs.TrustLemmas.{IsLater-refl, IsLater-trans}
+use Rattle.sq_queue.specs.Faces.{Together}
+use Rattle.sq_words.proofs.Prefixes.{prefix_along, prefix_itself}
+use Rattle.sq_flow.specs.declared.flow.Flow.{Flow}
+use Rattle.sq_flow.specs.declared.flow.Did.{Did}
+use Rattle.sq_flow.specs.declared.flow.Did.TheVariants.{Waits, Fed, Finished}
+use Rattle.sq_flow.specs.declared.errors.RunErr.{RunErr}
+use Rattle.sq_flow.specs.Causes.{IsFeedCause}
+use Rattle.sq_flow.specs.Flows.{IsFlow, FailsAt, measure_of}
+use Rattle.sq_flow.specs.Readiness.{IsReady, Took}
+use Rattle.sq_flow.specs.Seats.{done_at}
+use Rattle.sq_flow.specs.Stepping.{Stage, Keeps, Moves, StepOk, TrainOk, StepErr}
+use Rattle.sq_flow.proofs.StepLemmas.{stepped-none, stepped-both, prefix-after, plans-after, none-strange-after, costs-after, costs-most-after, too-much-after}
+use Rattle.sq_flow.proofs.CauseLemmas.{cause-since}
+use Rattle.sq_flow.proofs.TouchLemmas.{touches-none, touches-both}
+use Rattle.sq_flow.proofs.TookLemmas.{took-both, took-last}
+
+keeps-none : {O : Type 0} (a : Stage O) → Keeps a a
+keeps-none a = record { faults = le_refl _; later = IsLater-refl _; stay = prefix_itself a.events }
+
+keeps-both : {O : Type 0} (a b c : Stage O) → Keeps a b → Keeps b c → Keeps a c
+keeps-both a b c p q = record { faults = le_trans p.faults q.faults; later = IsLater-trans _ _ _ p.later q.later; stay = prefix_along _ _ _ p.stay q.stay }
+
+-- a train between two steps, each of which fed
+pub record Underway {O : Type 0} (m : Ghosts O) (actor fed : ℕ) (a b : Stage O) : Type 0 where
+  pub moves : Moves m actor a b
+  pub falls : measure_of b.flow + fed ≤ measure_of a.flow
+  pub begun : fed ≡ 0 → b.flow ≡ a.flow
+  pub took : done_at a.flow.over (slice_get a.flow.seats.items actor) ≡ false → Took actor fed false a.flow b.flow
+
+-- what holds of a value holds of what comes of it
+if-ok : {T E : Type 0} (r : Result T E) (P Q : T → Type 0) → ((x : T) → P x → Q x) → IfOk r P → IfOk r Q
+if-ok (Ok x) P Q from h = from x h
+if-ok (Err e) P Q from h = tt
+
+if-err : {T E : Type 0} (r : Result T E) (P Q : E → Type 0) → ((e : E) → P e → Q e) → IfErr r P → IfErr r Q
+if-err (Ok x) P Q from h = tt
+if-err (Err e) P Q from h = from e h
+
+-- a step that takes no steps' count takes it at any
+module _ {O : Type 0} (m : Ghosts O) (n : ℕ) (before after : ℕ → Stage O) where
+  pub ok-at : (place actor : ℕ) (r : Result Did RunErr) → place ≡ actor → IfOk r (λ did. (k : ℕ) → StepOk m place did (before k) (after k))
+      → IfOk r (λ did. StepOk m actor did (before n) (after n))
+  ok-at place actor r same h = if-ok r _ _ (λ did told. subst (λ a. StepOk m a did (before n) (after n)) same (told n)) h
+
+  pub err-at : (r : Result Did RunErr) → IfErr r (λ e. (k : ℕ) → StepErr m (before k) (after k) e) → IfErr r (StepErr m (before n) (after n))
+  err-at r h = if-err r _ _ (λ e told. told n) h
+
+module _ {O : Type 0} (m : Ghosts O) where
+  -- a step that failed was the first
+  pub fails-here : (was is : DiskLog) (f f' : Flow O) (events : List Event) (e : RunErr) → IsFlow m f → Together f.queues (known was) → IsLater was is
+      → IsFeedCause f f' was is e → FailsAt m was is f f' events e
+  fails-here was is f f' events e flow together later cause =
+      record { before = f; mid = was; shown = events; stepped = stepped-none m (known was) f events flow together; later = IsLater-refl was; last = later; feed = cause }
+
+  -- nothing was done
+  pub moves-none : (actor : ℕ) (a : Stage O) → IsFlow m a.flow → Together a.flow.queues (known a.log) → Moves m actor a a
+  moves-none actor a flow together =
+      record { stepped = stepped-none m (known a.log) a.flow a.events flow together; keeps = keeps-none a; touches = touches-none actor a.flow; cost = refl }
+
+  pub step-waits : (actor : ℕ) (a : Stage O) → IsFlow m a.flow → Together a.flow.queues (known a.log) → (IsReady a.flow actor → ⊥) → StepOk m actor Waits a a
+  step-waits actor a flow together waits = record { moves = moves-none actor a flow together; lowers = refl; took = tt; waits = (waits, refl) }
+
+  pub moves-both : (actor : ℕ) (a b c : Stage O) → Moves m actor a b → Moves m actor b c → Moves m actor a c
+  moves-both actor a b c p q =
+      record {
+        stepped = stepped-both m _ _ _ _ _ _ p.stepped _ _ _ q.stepped;
+        keeps = keeps-both a b c p.keeps q.keeps;
+        touches = touches-both actor a.flow b.flow c.flow p.stepped.wires p.stepped.seats p.touches q.touches;
+        cost = costs-after m _ _ _ _ _ _ p.stepped c.flow a.steps b.steps c.steps p.cost q.cost;
+      }
+
+  pub err-after : (actor : ℕ) (a b c : Stage O) (e : RunErr) → Moves m actor a b → StepErr m b c e → StepErr m a c e
+  err-after actor a b c e p q =
+      let tells = q.keeps.later.known in
+      record {
+        keeps = keeps-both a b c p.keeps q.keeps;
+        closes = λ table agrees. p.stepped.closes table (q.closes table agrees);
+        prefix = prefix-after m _ _ _ _ _ _ p.stepped (known c.log) c.flow.levels c.events tells q.closes q.prefix;
+        plans = plans-after m _ _ _ _ _ _ p.stepped c.flow.levels c.events q.plans;
+        strange = none-strange-after m _ _ _ _ _ _ p.stepped a.log.honest b.log.honest (known c.log) c.flow.levels e p.keeps.later.honest tells q.closes q.strange;
+        cause = cause-since c.flow a.log b.log c.log a.faults b.faults c.faults e p.keeps.later p.keeps.faults q.cause;
+        feed = record {
+              before = q.feed.before;
+              mid = q.feed.mid;
+              shown = q.feed.shown;
+              stepped = stepped-both m _ _ _ _ _ _ p.stepped _ _ _ q.feed.stepped;
+              later = IsLater-trans _ _ _ p.keeps.later q.feed.later;
+              last = q.feed.last;
+              feed = q.feed.feed;
+            };
+        cost = costs-most-after m _ _ _ _ _ _ p.stepped (known c.log) c.flow.levels a.steps b.steps c.steps tells q.closes p.cost q.cost;
+        too_much = too-much-after m _ _ _ _ _ _ p.stepped (known c.log) c.flow e tells q.closes q.too_much;
+      }
+
+  module _ (actor fed train : ℕ) (a b : Stage O) (under : Underway m actor fed a b) where
+    pub train-whole : fed ≡ train → 1 ≤ train → TrainOk m actor train a b (record { fed = fed; finished = false })
+    train-whole all some =
+        let falls = under.falls in
+        record {
+          moves = under.moves;
+          falls = omega (arith, falls);
+          took = under.took;
+          most = omega (arith, all);
+          works = λ ready none. absurd (omega (arith, none, all, some));
+          stops = inl all;
+        }
+
+    module _ (c : Stage O) (did : Did) (step : StepOk m actor did b c) where
+      pub train-waits : did ≡ Waits → fed ≤ train → TrainOk m actor train a c (record { fed = fed; finished = false })
+      train-waits is few =
+          let last = subst (λ d. StepOk m actor d b c) is step in
+          let falls = under.falls in
+          let less = last.lowers in
+          record {
+            moves = moves-both actor a b c under.moves last.moves;
+            falls = omega (arith, falls, less);
+            took = λ running. subst (Took actor fed false a.flow) (sym last.waits.1) (under.took running);
+            most = few;
+            works = λ ready none. absurd (last.waits.0 (subst (λ f. IsReady f actor) (sym (under.begun none)) ready));
+            stops = inr (inr (λ ready. last.waits.0 (subst (λ f. IsReady f actor) last.waits.1 ready)));
+          }
+
+      pub train-finished : did ≡ Finished → fed ≤ train → TrainOk m actor train a c (record { fed = fed; finished = true })
+      train-finished is few =
+          let last = subst (λ d. StepOk m actor d b c) is step in
+          let falls = under.falls in
+          let less = last.lowers in
+          record {
+            moves = moves-both actor a b c under.moves last.moves;
+            falls = omega (arith, falls, less);
+            took = λ running. took-last actor a.flow b.flow c.flow fed false true (under.took running) last.took;
+            most = few;
+            works = λ ready none. refl;
+            stops = inr (inl refl);
+          }
+
+      pub train-fed : did ≡ Fed → Underway m actor (fed + 1) a c
+      train-fed is =
+          let last = subst (λ d. StepOk m actor d b c) is step in
+          let falls = under.falls in
+          let less = last.lowers in
+          record {
+            moves = moves-both actor a b c under.moves last.moves;
+            falls = omega (arith, falls, less);
+            begun = λ none. absurd (omega (arith, none));
+            took = λ running. took-both actor a.flow b.flow c.flow fed 1 false false (under.took running) last.took;
+          }
