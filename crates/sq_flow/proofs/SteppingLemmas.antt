@@ -88,14 +88,14 @@ module _ {O : Type 0} (m : Ghosts O) where
         strange = none-strange-after m _ _ _ _ _ _ p.stepped a.log.honest b.log.honest (known c.log) c.flow.levels e p.keeps.later.honest tells q.closes q.strange;
         cause = cause-since c.flow a.log b.log c.log a.faults b.faults c.faults e p.keeps.later p.keeps.faults q.cause;
         feed = record {
-              before = q.feed.before;
-              mid = q.feed.mid;
-              shown = q.feed.shown;
-              stepped = stepped-both m _ _ _ _ _ _ p.stepped _ _ _ q.feed.stepped;
-              later = IsLater-trans _ _ _ p.keeps.later q.feed.later;
-              last = q.feed.last;
-              feed = q.feed.feed;
-            };
+          before = q.feed.before;
+          mid = q.feed.mid;
+          shown = q.feed.shown;
+          stepped = stepped-both m _ _ _ _ _ _ p.stepped _ _ _ q.feed.stepped;
+          later = IsLater-trans _ _ _ p.keeps.later q.feed.later;
+          last = q.feed.last;
+          feed = q.feed.feed;
+        };
         cost = costs-most-after m _ _ _ _ _ _ p.stepped (known c.log) c.flow.levels a.steps b.steps c.steps tells q.closes p.cost q.cost;
         too_much = too-much-after m _ _ _ _ _ _ p.stepped (known c.log) c.flow e tells q.closes q.too_much;
       }

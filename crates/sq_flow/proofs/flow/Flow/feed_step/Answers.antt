@@ -35,35 +35,35 @@ returns-clause-ok g c =
     let after = get_set_same c.args.self.now.seats.items c.args.actor c.feed_into.new.seat c.requires.actor_in in
     record {
       moves = record {
-          stepped =
-              fed-stepped _ c.args.self.now c.requires.flow c.args.actor c.requires.head.0 c.args.port c.args.arc c.arc-at.result.now c.in-Ok.item c.requires.actor_in c.requires.head.1 c.index_mut.result.now is c.arc-at.ensures
-              (known (g.D.PageDisk.log c.args.disk.now)) (known (g.D.PageDisk.log c.feed_into.new.disk)) (known (g.D.PageDisk.log c.take_item.new.disk)) c.take_item.new.queues c.feed_into.new.queues _ c.in-Ok-count_item.taken
-              c.feed_into.new.seat c.in_ok-feed_into.ensures.fed.items c.in_ok-feed_into.ensures.fed.drops c.args.events.now.items c.feed_into.new.events.items
-              c.requires.together
-              may
-              c.in-Ok.ensures.ended c.in-Ok.ensures.size c.in-Ok.ensures.frames c.in-Ok.ensures.items c.in-Ok.ensures.others c.in-Ok.ensures.later.known c.in-Ok-count_item.ensures.ok.0 c.in-Ok-count_item.ensures.ok.1
-              c.in_ok-feed_into.ensures.fed.fed
-              (get_set_same c.args.self.now.seats.items c.args.actor c.feed_into.new.seat c.requires.actor_in)
-              (λ other ne. get_set_other c.args.self.now.seats.items c.args.actor other c.feed_into.new.seat ne)
-              (length-set c.args.self.now.seats.items c.args.actor c.feed_into.new.seat) c.requires.running c.in_ok-feed_into.ensures.fed.onward.sent c.in_ok-feed_into.ensures.fed.onward.shown.lines c.in_ok-feed_into.ensures.fed.onward.shown.decided
-              (c.in_ok-feed_into.ensures.fed.onward.shown.below (length c.args.self.now.seats.items - c.args.self.now.wires.shown) (below-outputs c.args.actor (length c.args.self.now.seats.items) c.args.self.now.wires.shown c.requires.actor_in)
-              (own-drops _ c.args.self.now c.requires.flow c.args.actor c.requires.head.0 c.args.port c.args.arc c.arc-at.result.now c.in-Ok.item c.requires.actor_in c.requires.head.1 c.index_mut.result.now is c.arc-at.ensures
-              c.feed_into.new.seat c.in_ok-feed_into.ensures.fed.items c.in_ok-feed_into.ensures.fed.drops c.in_ok-feed_into.ensures.fed.fed may
-              (runs _ c.args.self.now c.requires.flow c.args.actor c.requires.head.0 c.args.port c.args.arc c.arc-at.result.now c.in-Ok.item c.requires.actor_in c.requires.head.1 c.index_mut.result.now is c.arc-at.ensures c.requires.running)))
-              c.in_ok-feed_into.ensures.fed.onward.shown.plans;
-          keeps = record { faults = le_trans c.in-Ok.ensures.faults c.in_ok-feed_into.ensures.faults; later = IsLater-trans _ _ _ c.in-Ok.ensures.later c.in_ok-feed_into.ensures.later; stay = c.in_ok-feed_into.ensures.fed.onward.shown.stay };
-          touches =
-              fed-touches _ c.args.self.now c.requires.flow c.args.actor c.requires.head.0 c.args.port c.args.arc c.arc-at.result.now c.in-Ok.item c.requires.actor_in c.requires.head.1 c.index_mut.result.now is c.arc-at.ensures
-              (known (g.D.PageDisk.log c.feed_into.new.disk)) (known (g.D.PageDisk.log c.take_item.new.disk)) c.take_item.new.queues c.feed_into.new.queues _ c.in-Ok-count_item.taken c.feed_into.new.seat c.in_ok-feed_into.ensures.fed.items
-              c.in-Ok.ensures.faces c.in_ok-feed_into.ensures.fed.fed.open_still
-              (get_set_same c.args.self.now.seats.items c.args.actor c.feed_into.new.seat c.requires.actor_in)
-              (λ other ne. get_set_other c.args.self.now.seats.items c.args.actor other c.feed_into.new.seat ne) c.in_ok-feed_into.ensures.fed.onward.sent;
-          cost =
-              costs-fed _ c.args.self.now c.requires.flow c.args.actor c.requires.head.0 c.args.port c.args.arc c.arc-at.result.now c.in-Ok.item c.requires.actor_in c.requires.head.1 c.index_mut.result.now is c.arc-at.ensures
-              (with_item c.args.self.now.seats c.args.actor c.feed_into.new.seat) c.feed_into.new.queues c.in-Ok-count_item.taken c.feed_into.new.seat c.args.steps.now c.feed_into.new.steps
-              (get_set_same c.args.self.now.seats.items c.args.actor c.feed_into.new.seat c.requires.actor_in)
-              (λ other ne. get_set_other c.args.self.now.seats.items c.args.actor other c.feed_into.new.seat ne)
-              (length-set c.args.self.now.seats.items c.args.actor c.feed_into.new.seat) c.in_ok-feed_into.ensures.fed.fed.after.counted c.in_ok-feed_into.ensures.cost;
+        stepped =
+            fed-stepped _ c.args.self.now c.requires.flow c.args.actor c.requires.head.0 c.args.port c.args.arc c.arc-at.result.now c.in-Ok.item c.requires.actor_in c.requires.head.1 c.index_mut.result.now is c.arc-at.ensures
+            (known (g.D.PageDisk.log c.args.disk.now)) (known (g.D.PageDisk.log c.feed_into.new.disk)) (known (g.D.PageDisk.log c.take_item.new.disk)) c.take_item.new.queues c.feed_into.new.queues _ c.in-Ok-count_item.taken
+            c.feed_into.new.seat c.in_ok-feed_into.ensures.fed.items c.in_ok-feed_into.ensures.fed.drops c.args.events.now.items c.feed_into.new.events.items
+            c.requires.together
+            may
+            c.in-Ok.ensures.ended c.in-Ok.ensures.size c.in-Ok.ensures.frames c.in-Ok.ensures.items c.in-Ok.ensures.others c.in-Ok.ensures.later.known c.in-Ok-count_item.ensures.ok.0 c.in-Ok-count_item.ensures.ok.1
+            c.in_ok-feed_into.ensures.fed.fed
+            (get_set_same c.args.self.now.seats.items c.args.actor c.feed_into.new.seat c.requires.actor_in)
+            (λ other ne. get_set_other c.args.self.now.seats.items c.args.actor other c.feed_into.new.seat ne)
+            (length-set c.args.self.now.seats.items c.args.actor c.feed_into.new.seat) c.requires.running c.in_ok-feed_into.ensures.fed.onward.sent c.in_ok-feed_into.ensures.fed.onward.shown.lines c.in_ok-feed_into.ensures.fed.onward.shown.decided
+            (c.in_ok-feed_into.ensures.fed.onward.shown.below (length c.args.self.now.seats.items - c.args.self.now.wires.shown) (below-outputs c.args.actor (length c.args.self.now.seats.items) c.args.self.now.wires.shown c.requires.actor_in)
+            (own-drops _ c.args.self.now c.requires.flow c.args.actor c.requires.head.0 c.args.port c.args.arc c.arc-at.result.now c.in-Ok.item c.requires.actor_in c.requires.head.1 c.index_mut.result.now is c.arc-at.ensures
+            c.feed_into.new.seat c.in_ok-feed_into.ensures.fed.items c.in_ok-feed_into.ensures.fed.drops c.in_ok-feed_into.ensures.fed.fed may
+            (runs _ c.args.self.now c.requires.flow c.args.actor c.requires.head.0 c.args.port c.args.arc c.arc-at.result.now c.in-Ok.item c.requires.actor_in c.requires.head.1 c.index_mut.result.now is c.arc-at.ensures c.requires.running)))
+            c.in_ok-feed_into.ensures.fed.onward.shown.plans;
+        keeps = record { faults = le_trans c.in-Ok.ensures.faults c.in_ok-feed_into.ensures.faults; later = IsLater-trans _ _ _ c.in-Ok.ensures.later c.in_ok-feed_into.ensures.later; stay = c.in_ok-feed_into.ensures.fed.onward.shown.stay };
+        touches =
+            fed-touches _ c.args.self.now c.requires.flow c.args.actor c.requires.head.0 c.args.port c.args.arc c.arc-at.result.now c.in-Ok.item c.requires.actor_in c.requires.head.1 c.index_mut.result.now is c.arc-at.ensures
+            (known (g.D.PageDisk.log c.feed_into.new.disk)) (known (g.D.PageDisk.log c.take_item.new.disk)) c.take_item.new.queues c.feed_into.new.queues _ c.in-Ok-count_item.taken c.feed_into.new.seat c.in_ok-feed_into.ensures.fed.items
+            c.in-Ok.ensures.faces c.in_ok-feed_into.ensures.fed.fed.open_still
+            (get_set_same c.args.self.now.seats.items c.args.actor c.feed_into.new.seat c.requires.actor_in)
+            (λ other ne. get_set_other c.args.self.now.seats.items c.args.actor other c.feed_into.new.seat ne) c.in_ok-feed_into.ensures.fed.onward.sent;
+        cost =
+            costs-fed _ c.args.self.now c.requires.flow c.args.actor c.requires.head.0 c.args.port c.args.arc c.arc-at.result.now c.in-Ok.item c.requires.actor_in c.requires.head.1 c.index_mut.result.now is c.arc-at.ensures
+            (with_item c.args.self.now.seats c.args.actor c.feed_into.new.seat) c.feed_into.new.queues c.in-Ok-count_item.taken c.feed_into.new.seat c.args.steps.now c.feed_into.new.steps
+            (get_set_same c.args.self.now.seats.items c.args.actor c.feed_into.new.seat c.requires.actor_in)
+            (λ other ne. get_set_other c.args.self.now.seats.items c.args.actor other c.feed_into.new.seat ne)
+            (length-set c.args.self.now.seats.items c.args.actor c.feed_into.new.seat) c.in_ok-feed_into.ensures.fed.fed.after.counted c.in_ok-feed_into.ensures.cost;
       };
       lowers = omega (arith, still, weight, more, low);
       took =

@@ -22,37 +22,37 @@ returns-clause-ok g c =
     let ran = sym fine.running ∙ runs _ c.args.self.now c.requires.flow c.args.actor c.requires.actor_in c.requires.head c.index_mut.result.now is c.requires.running in
     let less = open-less c.args.self.now.seats.items c.args.actor c.index_mut.result.now c.finish_into.new.seat is ran c.in_ok-finish_into.ensures.finished.finished.closed in
     let same =
-        finished-taken _ c.args.self.now c.requires.flow c.args.actor c.requires.actor_in c.requires.head c.index_mut.result.now is
-        (with_item c.args.self.now.seats c.args.actor c.finish_into.new.seat) c.end_arcs.new.queues c.finish_into.new.seat (let counted = c.in_ok-finish_into.ensures.finished.finished.after.counted in omega (arith, counted))
-        (get_set_same c.args.self.now.seats.items c.args.actor c.finish_into.new.seat c.requires.actor_in)
-        (λ other ne. get_set_other c.args.self.now.seats.items c.args.actor other c.finish_into.new.seat ne)
-        (length-set c.args.self.now.seats.items c.args.actor c.finish_into.new.seat)
+    finished-taken _ c.args.self.now c.requires.flow c.args.actor c.requires.actor_in c.requires.head c.index_mut.result.now is
+    (with_item c.args.self.now.seats c.args.actor c.finish_into.new.seat) c.end_arcs.new.queues c.finish_into.new.seat (let counted = c.in_ok-finish_into.ensures.finished.finished.after.counted in omega (arith, counted))
+    (get_set_same c.args.self.now.seats.items c.args.actor c.finish_into.new.seat c.requires.actor_in)
+    (λ other ne. get_set_other c.args.self.now.seats.items c.args.actor other c.finish_into.new.seat ne)
+    (length-set c.args.self.now.seats.items c.args.actor c.finish_into.new.seat)
     in
     let after = get_set_same c.args.self.now.seats.items c.args.actor c.finish_into.new.seat c.requires.actor_in in
     let sums = ended-sum c.args.self.now.wires (length c.args.self.now.seats.items) c.requires.flow.shaped c.args.actor c.requires.actor_in c.args.self.now.queues c.end_arcs.new.queues
     (λ arc away. c.end_arcs.ensures.apart arc away ∙ c.in_ok-finish_into.ensures.finished.onward.sent.apart arc away) in
     λ n. record {
       moves = record {
-          stepped =
-              finished-stepped _ c.args.self.now c.requires.flow c.args.actor c.requires.actor_in c.requires.head c.index_mut.result.now is
-              (known (g.D.PageDisk.log c.args.disk.now)) (known (g.D.PageDisk.log c.finish_into.new.disk)) c.finish_into.new.queues c.end_arcs.new.queues _
-              c.finish_into.new.seat c.in_ok-finish_into.ensures.finished.items c.in_ok-finish_into.ensures.finished.drops c.args.events.now.items c.finish_into.new.events.items
-              c.requires.together c.in_ok-finish_into.ensures.finished.finished
-              (get_set_same c.args.self.now.seats.items c.args.actor c.finish_into.new.seat c.requires.actor_in)
-              (λ other ne. get_set_other c.args.self.now.seats.items c.args.actor other c.finish_into.new.seat ne)
-              (length-set c.args.self.now.seats.items c.args.actor c.finish_into.new.seat)
-              c.in_ok-finish_into.ensures.finished.onward.sent c.end_arcs.ensures.size c.end_arcs.ensures.frames c.end_arcs.ensures.ended c.end_arcs.ensures.items c.end_arcs.ensures.together c.in_ok-finish_into.ensures.finished.onward.shown.lines c.requires.running c.in_ok-finish_into.ensures.finished.onward.shown.decided
-              (c.in_ok-finish_into.ensures.finished.onward.shown.below (length c.args.self.now.seats.items - c.args.self.now.wires.shown) (below-outputs c.args.actor (length c.args.self.now.seats.items) c.args.self.now.wires.shown c.requires.actor_in)
-              (own-drops _ c.args.self.now c.requires.flow c.args.actor c.requires.actor_in c.requires.head c.index_mut.result.now is
-              c.finish_into.new.seat c.in_ok-finish_into.ensures.finished.items c.in_ok-finish_into.ensures.finished.drops c.in_ok-finish_into.ensures.finished.finished c.requires.running))
-              c.in_ok-finish_into.ensures.finished.onward.shown.plans;
-          keeps = record { faults = c.in_ok-finish_into.ensures.faults; later = c.in_ok-finish_into.ensures.later; stay = c.in_ok-finish_into.ensures.finished.onward.shown.stay };
-          touches =
-              finished-touches _ c.args.self.now c.requires.flow c.args.actor c.requires.actor_in c.requires.head c.index_mut.result.now is
-              (known (g.D.PageDisk.log c.args.disk.now)) (known (g.D.PageDisk.log c.finish_into.new.disk)) c.finish_into.new.queues c.end_arcs.new.queues _ c.in_ok-finish_into.ensures.finished.items
-              (λ other ne. get_set_other c.args.self.now.seats.items c.args.actor other c.finish_into.new.seat ne)
-              c.in_ok-finish_into.ensures.finished.onward.sent c.end_arcs.ensures.ended c.end_arcs.ensures.first c.end_arcs.ensures.apart;
-          cost = ap (λ k. n + k) (sym same);
+        stepped =
+            finished-stepped _ c.args.self.now c.requires.flow c.args.actor c.requires.actor_in c.requires.head c.index_mut.result.now is
+            (known (g.D.PageDisk.log c.args.disk.now)) (known (g.D.PageDisk.log c.finish_into.new.disk)) c.finish_into.new.queues c.end_arcs.new.queues _
+            c.finish_into.new.seat c.in_ok-finish_into.ensures.finished.items c.in_ok-finish_into.ensures.finished.drops c.args.events.now.items c.finish_into.new.events.items
+            c.requires.together c.in_ok-finish_into.ensures.finished.finished
+            (get_set_same c.args.self.now.seats.items c.args.actor c.finish_into.new.seat c.requires.actor_in)
+            (λ other ne. get_set_other c.args.self.now.seats.items c.args.actor other c.finish_into.new.seat ne)
+            (length-set c.args.self.now.seats.items c.args.actor c.finish_into.new.seat)
+            c.in_ok-finish_into.ensures.finished.onward.sent c.end_arcs.ensures.size c.end_arcs.ensures.frames c.end_arcs.ensures.ended c.end_arcs.ensures.items c.end_arcs.ensures.together c.in_ok-finish_into.ensures.finished.onward.shown.lines c.requires.running c.in_ok-finish_into.ensures.finished.onward.shown.decided
+            (c.in_ok-finish_into.ensures.finished.onward.shown.below (length c.args.self.now.seats.items - c.args.self.now.wires.shown) (below-outputs c.args.actor (length c.args.self.now.seats.items) c.args.self.now.wires.shown c.requires.actor_in)
+            (own-drops _ c.args.self.now c.requires.flow c.args.actor c.requires.actor_in c.requires.head c.index_mut.result.now is
+            c.finish_into.new.seat c.in_ok-finish_into.ensures.finished.items c.in_ok-finish_into.ensures.finished.drops c.in_ok-finish_into.ensures.finished.finished c.requires.running))
+            c.in_ok-finish_into.ensures.finished.onward.shown.plans;
+        keeps = record { faults = c.in_ok-finish_into.ensures.faults; later = c.in_ok-finish_into.ensures.later; stay = c.in_ok-finish_into.ensures.finished.onward.shown.stay };
+        touches =
+            finished-touches _ c.args.self.now c.requires.flow c.args.actor c.requires.actor_in c.requires.head c.index_mut.result.now is
+            (known (g.D.PageDisk.log c.args.disk.now)) (known (g.D.PageDisk.log c.finish_into.new.disk)) c.finish_into.new.queues c.end_arcs.new.queues _ c.in_ok-finish_into.ensures.finished.items
+            (λ other ne. get_set_other c.args.self.now.seats.items c.args.actor other c.finish_into.new.seat ne)
+            c.in_ok-finish_into.ensures.finished.onward.sent c.end_arcs.ensures.ended c.end_arcs.ensures.first c.end_arcs.ensures.apart;
+        cost = ap (λ k. n + k) (sym same);
       };
       lowers = omega (arith, less);
       took =

@@ -4,7 +4,7 @@ use Rattle.sq_flow.proofs.SteppingLemmas.{step-waits, ok-at, err-at}
 use Rattle.sq_flow.proofs.flow.Flow.one_step.Goals as goal
 
 pub returns-then-is_done-clause-ok : goal.returns-then-is_done-clause-ok
-returns-then-is_done-clause-ok g c = 
+returns-then-is_done-clause-ok g c =
     step-waits _ c.args.actor _ c.requires.flow c.requires.together (λ ready. cc (sym c.if-is_done.true ∙ c.is_done.ensures ∙ ready.running))
 
 pub returns-then-actor-self-clause-ok : goal.returns-then-actor-self-clause-ok

@@ -10,10 +10,10 @@ returns-in-None-clause-ok g c =
     let end = c.end_step.ensures in
     λ n. record {
       moves = record {
-          stepped = end.ok (known (g.D.PageDisk.log c.args.disk.now)) c.args.events.now.items c.requires.together;
-          keeps = record { faults = le_refl _; later = IsLater-refl _; stay = prefix_itself _ };
-          touches = end.touches;
-          cost = ap (λ k. n + k) (sym end.taken);
+        stepped = end.ok (known (g.D.PageDisk.log c.args.disk.now)) c.args.events.now.items c.requires.together;
+        keeps = record { faults = le_refl _; later = IsLater-refl _; stay = prefix_itself _ };
+        touches = end.touches;
+        cost = ap (λ k. n + k) (sym end.taken);
       };
       lowers = end.measure;
       took = end.took;
