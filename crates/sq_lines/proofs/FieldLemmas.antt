@@ -1,5 +1,5 @@
 -- Fields between quotes.
-use Rattle.std.proofs.Common.{List, refl, ℕ, Bool, true, false, [], ◌≡◌, ◌==◌, ◌∷◌, ◌++◌, ◌+◌, ◌-◌, ◌∙◌, ap, arith, length, take, drop, append-nil}
+use Rattle.std.proofs.Common.{List, refl, ℕ, true, false, [], ◌≡◌, ◌==◌, ◌∷◌, ◌++◌, ◌+◌, ◌-◌, ◌∙◌, ap, arith, length, take, drop, append-nil}
 use Rattle.std.specs.Prelude.{slice_range}
 use Rattle.std.specs.List.{list_any}
 use Rattle.std.proofs.lemmas.Bool.Decides.{nat_tests}

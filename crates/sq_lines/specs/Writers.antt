@@ -5,5 +5,5 @@ use Rattle.csv.specs.Writing.{default_writer, fields_written, has_written, write
 use Rattle.csv.specs.declared.writer.Writer.{Writer}
 
 -- it is set as by default and at a row's start, and has handed on all that it wrote
-abbrev pub IsReady : Writer (Vec ℕ) → Type 0
-IsReady w = ∥ (writer_setup w ≡ default_writer) × (fields_written w ≡ 0) × (has_written w ≡ false) × (writer_pending w ≡ []) ∥₁
+abbrev pub IsBetweenRows : Writer (Vec ℕ) → Type 0
+IsBetweenRows w = ∥ (writer_setup w ≡ default_writer) × (fields_written w ≡ 0) × (has_written w ≡ false) × (writer_pending w ≡ []) ∥₁

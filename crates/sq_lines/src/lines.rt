@@ -39,11 +39,7 @@ fn append_value(value: &Value, quoter: &mut Quoter, out: &mut Vec<u8>) -> Result
     }
 }
 
-fn append_values(
-    values: &[Value],
-    quoter: &mut Quoter,
-    out: &mut Vec<u8>,
-) -> Result<(), AllocError>
+fn append_values(values: &[Value], quoter: &mut Quoter, out: &mut Vec<u8>) -> Result<(), AllocError>
     ensures ok { OnOk result (out.new.items ≡ out.old.items ++ more_fields (map text_of values.now)) }
     ensures kept { IsPrefixOf out.old.items out.new.items }
 {

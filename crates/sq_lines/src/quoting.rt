@@ -4,7 +4,7 @@ ghost use Rattle.std.specs.List.{list_any};
 ghost use Rattle.csv.specs.Writing.{writer_under};
 ghost use Rattle.sq_words.specs.Lists.{IsPrefixOf};
 ghost use Rattle.sq_lines.specs.LineTexts.{field_text, needs_quotes};
-ghost use Rattle.sq_lines.specs.Writers.{IsReady};
+ghost use Rattle.sq_lines.specs.Writers.{IsBetweenRows};
 
 use csv::{Writer, WriterBuilder};
 use std::alloc::{AllocError, Global};
@@ -16,10 +16,10 @@ const KEPT: usize = 1 << 16;
 #[derive(Drop)]
 struct Between {
     writer: Box<Writer<Vec<u8>>>,
-    ghost ready: { IsReady writer.value },
+    ghost between: { IsBetweenRows writer.value },
 }
 
-/// Writes fields in quotes by a writer of `csv` that is kept: to make one takes as long as to write fifty fields.
+/// Writes fields in quotes by a writer of `csv` that is kept: to make one for each field would take longer than to write it.
 #[derive(Drop)]
 pub struct Quoter {
     kept: Option<Between>,
@@ -29,7 +29,7 @@ pub struct Quoter {
 #[cold]
 #[inline(never)]
 fn new_writer(alloc: Global) -> Result<Box<Writer<Vec<u8>>>, AllocError>
-    ensures { IfOk result (λ w. IsReady w.value) }
+    ensures { IfOk result (λ w. IsBetweenRows w.value) }
 {
     match Box::new(alloc, WriterBuilder::new().from_writer(Vec::new(alloc))) {
         Ok(writer) => Ok(writer),
@@ -39,9 +39,9 @@ fn new_writer(alloc: Global) -> Result<Box<Writer<Vec<u8>>>, AllocError>
 
 /// Writes a row of one field, which needs quotes, behind the others.
 fn write_alone(writer: &mut Writer<Vec<u8>>, field: &[u8]) -> Result<(), AllocError>
-    requires ready { IsReady writer.old }
+    requires ready { IsBetweenRows writer.old }
     requires quoted { list_any needs_quotes field.now ≡ true }
-    ensures ready { OnOk result (IsReady writer.new) }
+    ensures ready { OnOk result (IsBetweenRows writer.new) }
     ensures text { OnOk result ((writer_under writer.new).items ≡ (writer_under writer.old).items ++ (field_text field.now ++ 10 ∷ [])) }
 {
     let Ok(()) = writer.write_fields(&[field]) else {
@@ -61,7 +61,7 @@ impl Quoter {
 
     // Takes the writer out: one that fails isn't put back.
     fn take(&mut self, alloc: Global) -> Result<Box<Writer<Vec<u8>>>, AllocError>
-        ensures { IfOk result (λ w. IsReady w.value) }
+        ensures { IfOk result (λ w. IsBetweenRows w.value) }
     {
         let Some(between) = self.kept.take() else {
             return new_writer(alloc);

@@ -1,5 +1,5 @@
 // Rows as lines.
-ghost use Rattle.std.specs.Prelude.{◌≡◌, ◌++◌, false, map, OnOk, OnErr};
+ghost use Rattle.std.specs.Prelude.{◌≡◌, ◌∷◌, ◌++◌, [], false, map, OnOk, OnErr};
 ghost use Rattle.std.specs.List.{list_any};
 ghost use Rattle.sq_words.specs.Lists.{IsPrefixOf};
 ghost use Rattle.sq_lines.specs.LineTexts.{doubled, field_text, line_of, more_fields, needs_quotes, row_of};
@@ -17,14 +17,24 @@ fn needs_quotes(field: &[u8]) -> bool
 
 /// Whether a field has a quote, CR or LF, and not a comma alone for which it would stand in quotes.
 fn breaks_quotes(field: &[u8]) -> bool
-    ensures breaks { result ≡ list_any breaks_quotes field.now }
-    ensures same { result ≡ false → doubled field.now ≡ field.now }
+    ensures { result ≡ list_any breaks_quotes field.now }
 {
     field.iter().any(|b| *b <= b'"' && (*b == b'"' || *b == b'\r' || *b == b'\n'))
 }
 
-/// Puts a field at the end, in quotes where it needs them. One that has a comma alone is the same between them; others are written
-/// by `csv`.
+/// Puts a field that is the same between quotes at the end, in quotes.
+fn append_between(field: &[u8], out: &mut Vec<u8>) -> Result<(), AllocError>
+    requires { list_any breaks_quotes field.now ≡ false }
+    ensures ok { OnOk result (out.new.items ≡ out.old.items ++ 34 ∷ (doubled field.now ++ 34 ∷ [])) }
+    ensures kept { IsPrefixOf out.old.items out.new.items }
+{
+    out.push(b'"')?;
+    out.extend_from_slice(field)?;
+    out.push(b'"')?;
+    Ok(())
+}
+
+/// Puts a field at the end, in quotes where it needs them. One that isn't the same between them is written by `csv`.
 #[inline(always)]
 pub(crate) fn append_field(
     field: &[u8],
@@ -40,10 +50,7 @@ pub(crate) fn append_field(
     if breaks_quotes(field) {
         return quoter.append(field, out);
     }
-    out.push(b'"')?;
-    out.extend_from_slice(field)?;
-    out.push(b'"')?;
-    Ok(())
+    append_between(field, out)
 }
 
 /// Whether the fields of a row have no byte, so that its line is a quoted empty field.
@@ -57,11 +64,7 @@ fn shows_nothing(fields: &[&[u8]]) -> bool
     }
 }
 
-fn append_more(
-    fields: &[&[u8]],
-    quoter: &mut Quoter,
-    out: &mut Vec<u8>,
-) -> Result<(), AllocError>
+fn append_more(fields: &[&[u8]], quoter: &mut Quoter, out: &mut Vec<u8>) -> Result<(), AllocError>
     ensures ok { OnOk result (out.new.items ≡ out.old.items ++ more_fields (map (λ f. f.now) fields.now)) }
     ensures kept { IsPrefixOf out.old.items out.new.items }
 {
@@ -72,11 +75,7 @@ fn append_more(
     Ok(())
 }
 
-fn append_row(
-    fields: &[&[u8]],
-    quoter: &mut Quoter,
-    out: &mut Vec<u8>,
-) -> Result<(), AllocError>
+fn append_row(fields: &[&[u8]], quoter: &mut Quoter, out: &mut Vec<u8>) -> Result<(), AllocError>
     ensures ok { OnOk result (out.new.items ≡ out.old.items ++ row_of (map (λ f. f.now) fields.now)) }
     ensures kept { IsPrefixOf out.old.items out.new.items }
 {

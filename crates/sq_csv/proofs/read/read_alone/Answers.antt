@@ -1,5 +1,5 @@
 use Rattle.std.proofs.Common.{◌∙◌, ap, inl, inr, Some, sym}
-use Rattle.csv.specs.Reading.{Ready, strip_bom}
+use Rattle.csv.specs.Reading.{Ready}
 use Rattle.csv.specs.Records.{fields_of}
 use Rattle.sq_csv.proofs.ReaderLemmas.{Starts, none_read, one_read, two_read, unmarked}
 use Rattle.sq_csv.proofs.read.read_alone.Goals as goal
