@@ -4,14 +4,13 @@ use Rattle.std.proofs.Math.Dec.{eqb-suc-zero}
 use Rattle.std.proofs.Math.ListN.{set}
 use Rattle.std.specs.Prelude.{Result, Ok, Err, OnOk, OnErr, is_some, slice_get, unwrap_or}
 use Rattle.std.specs.List.{AllByRecursion}
-use Rattle.std.proofs.lemmas.Grind.{flat_map-append}
+use Rattle.std.proofs.lemmas.List.Sums.{sum_by-cons, sum_by-append}
 use Rattle.std.proofs.lemmas.List.{length-append, append-nil}
 use Rattle.sq_item.specs.declared.Item.{Item}
 use Rattle.sq_item.specs.SoundItems.{IsSoundItem}
-use Rattle.sq_page.specs.Pages.{item_bytes, items_bytes}
 use Rattle.sq_paged.specs.Faces.{is_first}
 use Rattle.sq_paged.specs.Fronts.{Face, IsFaceOf, IsPopped, first_time, first_time_or, pushed}
-use Rattle.sq_queue.specs.Faces.{bytes_of, face_at, front_at, behind_at, first_time_of, IsLane}
+use Rattle.sq_queue.specs.Faces.{room_of, rooms_of, face_at, front_at, behind_at, first_time_of, IsLane}
 use Rattle.sq_queue.specs.declared.Lane.{Lane}
 use Rattle.sq_paged.proofs.LaneLemmas.{first-given}
 use Rattle.sq_words.proofs.Lists.{get_set_same, get_set_other}
@@ -61,16 +60,15 @@ sound-append [] item s h = (s, tt)
 sound-append (x ∷ items) item s h = (h.0, sound-append items item s h.1)
 
 -- how many bytes items take with one more behind or in front of them
-bytes-behind : (items : List Item) (item : Item) → bytes_of (items ++ item ∷ []) ≡ bytes_of items + length (item_bytes item)
-bytes-behind items item =
-    omega (arith, ap length (flat_map-append item_bytes items (item ∷ [])), length-append (items_bytes items) (item_bytes item ++ []), length-append (item_bytes item) [])
+rooms-behind : (items : List Item) (item : Item) → rooms_of (items ++ item ∷ []) ≡ rooms_of items + room_of item
+rooms-behind items item = omega (arith, sum_by-append room_of items (item ∷ []), sum_by-cons room_of item [])
 
-pub bytes-in-front : (item : Item) (items : List Item) → bytes_of (item ∷ items) ≡ length (item_bytes item) + bytes_of items
-bytes-in-front item items = length-append (item_bytes item) (items_bytes items)
+pub rooms-in-front : (front : List Item) (item : Item) (items : List Item) → front ≡ item ∷ items → rooms_of front ≡ room_of item + rooms_of items
+rooms-in-front front item items is = ap rooms_of is ∙ sum_by-cons room_of item items
 
-pub no-bytes : (items : List Item) (item : Item) → length (item ∷ items) ≤ 1 → bytes_of items ≤ 0
-no-bytes [] item one = omega arith
-no-bytes (x ∷ items) item one = absurd (omega (arith, one))
+pub no-rooms : (front : List Item) (item : Item) (items : List Item) → front ≡ item ∷ items → length front ≤ 1 → rooms_of items ≤ 0
+no-rooms front item [] is one = omega arith
+no-rooms front item (x ∷ items) is one = absurd (omega (arith, ap length is, one))
 
 -- a lane has one item more in front
 pub record Appends (lane new : Lane) (item : Item) : Type 0 where
@@ -79,16 +77,16 @@ pub record Appends (lane new : Lane) (item : Item) : Type 0 where
   pub behind : new.behind ≡ lane.behind
 
 pub appended-lane : (lane new : Lane) (item : Item) (paged : Face) → IsLane (Some lane) paged → Appends lane new item → IsSoundItem item → length lane.front.items < 256
-    → (bytes : ℕ) → length (item_bytes item) ≤ bytes → new.held ≡ lane.held + bytes → lane.held + bytes ≤ 8192 → IsLane (Some new) paged
+    → (bytes : ℕ) → bytes ≡ room_of item → new.held ≡ lane.held + bytes → lane.held + bytes ≤ 8192 → IsLane (Some new) paged
 appended-lane lane new item paged l a sound room bytes takes held most =
     let more : length new.front.items ≡ length lane.front.items + 1 = ap length a.front ∙ length-append lane.front.items (item ∷ []) in
-    let more_bytes : bytes_of new.front.items ≡ bytes_of lane.front.items + length (item_bytes item) = ap bytes_of a.front ∙ bytes-behind lane.front.items item in
+    let rooms : rooms_of new.front.items ≡ rooms_of lane.front.items + room_of item = ap rooms_of a.front ∙ rooms-behind lane.front.items item in
     record {
       count = omega (arith, l.count, a.count, more);
       behind = a.behind ∙ l.behind;
       runs = l.runs;
       few = omega (arith, more, room);
-      held = omega (arith, l.held, more_bytes, takes, held);
+      held = omega (arith, l.held, rooms, takes, held);
       page = omega (arith, held, most);
       sound = subst (λ (xs : List Item). AllByRecursion IsSoundItem xs) (sym a.front) (sound-append lane.front.items item sound l.sound);
     }
@@ -97,13 +95,13 @@ appended-lane lane new item paged l a sound room bytes takes held most =
 pub kept-lane : (lane new : Lane) (paged : Face) → IsLane (Some lane) paged → new.front.items ≡ lane.front.items → new.held ≡ lane.held → new.count ≡ lane.count → new.behind ≡ lane.behind → IsLane (Some new) paged
 kept-lane lane new paged l front held count behind =
     let same : length new.front.items ≡ length lane.front.items = ap length front in
-    let bytes : bytes_of new.front.items ≡ bytes_of lane.front.items = ap bytes_of front in
+    let rooms : rooms_of new.front.items ≡ rooms_of lane.front.items = ap rooms_of front in
     record {
       count = omega (arith, l.count, count, same);
       behind = behind ∙ l.behind;
       runs = l.runs;
       few = omega (arith, l.few, same);
-      held = omega (arith, l.held, bytes, held);
+      held = omega (arith, l.held, rooms, held);
       page = omega (arith, l.page, held);
       sound = subst (λ (xs : List Item). AllByRecursion IsSoundItem xs) (sym front) l.sound;
     }
@@ -120,13 +118,13 @@ pub pushed-behind : (lane new : Lane) (time : ℕ) (paged after : Face) → IsLa
 pushed-behind lane new time paged after l e front held count behind =
     let more : after.count ≡ paged.count + 1 = ap (λ (f : Face). f.count) e in
     let same : length new.front.items ≡ length lane.front.items = ap length front in
-    let bytes : bytes_of new.front.items ≡ bytes_of lane.front.items = ap bytes_of front in
+    let rooms : rooms_of new.front.items ≡ rooms_of lane.front.items = ap rooms_of front in
     record {
       count = omega (arith, l.count, more, count, same);
       behind = behind ∙ first-given lane.behind time ∙ ap (λ (o : Option ℕ). first_time_or o time) l.behind ∙ sym (ap (λ (f : Face). f.first) e);
       runs = ap (λ (f : Face). f.ended) e ∙ l.runs;
       few = omega (arith, l.few, same);
-      held = omega (arith, l.held, bytes, held);
+      held = omega (arith, l.held, rooms, held);
       page = omega (arith, l.page, held);
       sound = subst (λ (xs : List Item). AllByRecursion IsSoundItem xs) (sym front) l.sound;
     }
@@ -135,7 +133,7 @@ pushed-behind lane new time paged after l e front held count behind =
 
 pub record Takes (lane new : Lane) (item : Item) : Type 0 where
   pub front : lane.front.items ≡ item ∷ new.front.items
-  pub held : bytes_of new.front.items ≤ new.held
+  pub held : rooms_of new.front.items ≤ new.held
   pub less : new.held ≤ lane.held
   pub count : lane.count ≡ new.count + 1
   pub behind : new.behind ≡ lane.behind

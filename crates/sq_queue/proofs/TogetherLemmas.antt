@@ -12,12 +12,13 @@ use Rattle.sq_item.specs.SoundItems.{IsSoundItem}
 use Rattle.sq_outside.specs.Disks.{Pages}
 use Rattle.sq_paged.specs.Fronts.{Face}
 use Rattle.sq_paged.specs.Faces as pages
-use Rattle.sq_queue.specs.Faces.{bytes_of, front_at, size, items_on, no_face, IsEmpty, IsLane, Together, IsBounded}
+use Rattle.sq_queue.specs.Faces.{bytes_of, rooms_of, front_at, size, items_on, no_face, IsEmpty, IsLane, Together, IsBounded}
 use Rattle.sq_queue.specs.declared.Lane.{Lane}
 use Rattle.sq_queue.specs.declared.Queues.{Queues}
 use Rattle.sq_paged.specs.declared.Queues.{Queues as Paged}
 use Rattle.sq_paged.proofs.CallLemmas.{first-in}
 use Rattle.sq_queue.proofs.LaneLemmas.{lane-face, none-first}
+use Rattle.sq_queue.proofs.RoomLemmas.{bytes-within}
 use Rattle.sq_words.proofs.Lists.{get_set_same, get_set_other}
 
 -- where pages and lanes are as they should be, all stands together
@@ -90,7 +91,7 @@ taken-items q told r now arc lane new item inside was lanes own =
 pub bounded : (q : Queues) (told : Option Pages) → Together q told → IsBounded q
 bounded q told g =
     let lanes = q.lanes.items in
-    let each : (arc : ℕ) → bytes_of (front_at (slice_get lanes arc)) ≤ 8192 = λ arc. omega (arith, (g.lanes arc).held, (g.lanes arc).page) in
+    let each : (arc : ℕ) → bytes_of (front_at (slice_get lanes arc)) ≤ 8192 = λ arc. omega (arith, bytes-within (front_at (slice_get lanes arc)), (g.lanes arc).held, (g.lanes arc).page) in
     record {
       each = each;
       all = omega (arith, sum_by-le (λ (lane : Lane). bytes_of lane.front.items) 8192 lanes (λ arc lane inside. subst (λ (o : Option Lane). bytes_of (front_at o) ≤ 8192) (slice_get-get_or lanes arc lane inside) (each arc)));
@@ -126,13 +127,13 @@ empty-more (x ∷ lanes) lane here others (suc arc) = empty-more lanes lane here
 empty-lane : (lane : Option Lane) (paged : Face) → IsEmpty lane → paged ≡ no_face → IsLane lane paged
 empty-lane lane paged e p =
     let none : length (front_at lane) ≡ 0 = ap length e.front in
-    let no_bytes : bytes_of (front_at lane) ≡ 0 = ap bytes_of e.front in
+    let no_rooms : rooms_of (front_at lane) ≡ 0 = ap rooms_of e.front in
     record {
       count = omega (arith, ap (λ (f : Face). f.count) e.face, none, ap (λ (f : Face). f.count) p);
       behind = e.behind ∙ sym (ap (λ (f : Face). f.first) p);
       runs = ap (λ (f : Face). f.ended) p;
       few = omega (arith, none);
-      held = omega (arith, no_bytes);
+      held = omega (arith, no_rooms);
       page = omega (arith, e.held);
       sound = subst (λ (xs : List Item). AllByRecursion IsSoundItem xs) (sym e.front) tt;
     }

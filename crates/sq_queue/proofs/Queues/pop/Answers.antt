@@ -212,3 +212,10 @@ returns-clause-together g c =
     written-together q _ r _ arc lane new c.requires.together c.requires.together.paged refl c.requires.there
     (slice_get_read q.lanes.items _ arc lane refl c.requires.there c.index_mut-lane.ensures.value) refl (λ other differ. refl)
     (λ own. taken-lane lane new c.take_first.result (pages.paged_face q.paged arc) own takes)
+
+pub take_first-requires-clause-few : goal.take_first-requires-clause-few
+take_first-requires-clause-few g c =
+    let q = c.args.self.now in
+    let arc = c.args.arc in
+    let lane = c.index_mut-lane.result.now in
+    (own-lane q _ arc lane c.requires.together (slice_get_read q.lanes.items _ arc lane refl c.requires.there c.index_mut-lane.ensures.value)).few
