@@ -25,7 +25,7 @@ use sq_item::{Body, Item, Sign};
 use sq_oper::{Event, Operator};
 use sq_outside::{PageDisk, Steps};
 use sq_plan::Planner;
-use sq_queue::Queues;
+use sq_queue::{ArcQueues, Queues};
 use sq_replay::Stream;
 use sq_road::Levels;
 use sq_value::Tuple;

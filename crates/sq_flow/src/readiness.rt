@@ -7,7 +7,7 @@ ghost use Rattle.sq_flow.specs.Readiness.{stands};
 
 use crate::flow::Flow;
 use sq_oper::Operator;
-use sq_queue::{Head, Queues};
+use sq_queue::{ArcQueues, Head, Queues};
 
 fn stands_at(queues: &Queues, arc: u32) -> bool
     requires { arc < size queues.now }

@@ -21,7 +21,7 @@ use crate::wires::Wires;
 use sq_item::Item;
 use sq_oper::{Decision, Event};
 use sq_outside::PageDisk;
-use sq_queue::{QueueErr, Queues, room_for};
+use sq_queue::{ArcQueues, QueueErr, Queues, room_for};
 use sq_value::Tuple;
 use std::alloc::AllocError;
 

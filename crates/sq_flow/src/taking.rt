@@ -16,7 +16,7 @@ use crate::wires::Arc;
 use sq_item::{Body, Item, Sign};
 use sq_oper::Moment;
 use sq_outside::PageDisk;
-use sq_queue::Queues;
+use sq_queue::{ArcQueues, Queues};
 use sq_value::{Kind, Value};
 
 #[inline(always)]

@@ -10,7 +10,7 @@ ghost use Rattle.sq_paged.specs.Fronts.{head_by};
 ghost use Rattle.sq_queue.specs.Faces.{face, size};
 ghost use Rattle.sq_heads.specs.Heads.{NextUpTo};
 
-use sq_queue::{Head, Queues};
+use sq_queue::{ArcQueues, Head, Queues};
 
 /// What an operator may do next: nothing yet, finish, or be fed from an arc.
 #[derive(Clone, Copy, Drop)]

@@ -21,8 +21,10 @@ ghost use Rattle.sq_page.specs.Pages.{item_bytes};
 ghost use Rattle.sq_pool.specs.Pools.{Agree, bytes_in, is_held};
 ghost use Rattle.sq_link.specs.ChainLists.{IsLoose, head_or, list_at};
 
+mod contract;
 mod store;
 
+pub use contract::ArcQueues;
 use sq_item::Item;
 use sq_link::Chains;
 use sq_outside::PageDisk;
@@ -116,145 +118,6 @@ impl Queues {
             kept: Vec::new(alloc),
             lanes,
         })
-    }
-
-    /// Appends a copy of an item to an arc that hasn't ended. At an error all other arcs have the faces that they had, and the
-    /// queues are done: no call is to follow.
-    pub fn push<D: PageDisk>(&mut self, disk: &mut D, arc: u32, item: &Item) -> Result<(), QueueErr>
-        requires there { arc < paged_size self.old }
-        requires open { (paged_face self.old arc).ended ≡ false }
-        requires sound { IsSoundItem item.now }
-        requires together { PagedTogether self.old (known (D.log disk.old)) }
-        ensures face { OnOk result (paged_face self.new arc ≡ pushed (paged_face self.old arc) item.now.time) }
-        ensures faces { (other : ℕ) → other ≢ arc → paged_face self.new other ≡ paged_face self.old other }
-        ensures size { paged_size self.new ≡ paged_size self.old }
-        ensures frames { OnOk result (paged_frames self.new ≡ paged_frames self.old) }
-        ensures items { OnOk result (Tells (known (D.log disk.new)) → paged_items_on self.new (known (D.log disk.new)) arc ≡ paged_items_on self.old (known (D.log disk.old)) arc ++ item.now ∷ []) }
-        ensures others { OnOk result (Tells (known (D.log disk.new)) → (other : ℕ) → other ≢ arc → paged_items_on self.new (known (D.log disk.new)) other ≡ paged_items_on self.old (known (D.log disk.old)) other) }
-        ensures together { OnOk result (PagedTogether self.new (known (D.log disk.new))) }
-        ensures later { IsLater (D.log disk.old) (D.log disk.new) }
-
-        // Each refusal.
-        ensures disk { IfErr result (λ e. e ≡ QueueErr.Disk → Rose (D.faults disk.old) (D.faults disk.new)) }
-        ensures cause { IfErr result (λ e. IsPagedRefusal self.old self.new (D.log disk.old) (D.log disk.new) arc e) }
-        ensures honest { IfErr result (λ e. Honest (D.log disk.old) → IsTold e) }
-        ensures misfit { IfErr result (λ e. Tells (known (D.log disk.new)) → NoMisfit e) }
-        ensures faults { D.faults disk.old ≤ D.faults disk.new }
-    {
-        let lane = self.lanes[arc as usize];
-        let Some(count) = lane.count.checked_add(1) else {
-            return Err(QueueErr::Memory);
-        };
-        let last = match self.add(disk, arc, item) {
-            Ok(node) => node,
-            Err(e) => return Err(e),
-        };
-        self.lanes[arc as usize] = Lane {
-            count,
-            first: Some(lane.first.unwrap_or(item.time)),
-            last: Some(last),
-            ended: lane.ended,
-        };
-        Ok(())
-    }
-
-    /// Appends an item to an arc that hasn't ended, as `push` does, and lets it go.
-    pub fn send<D: PageDisk>(&mut self, disk: &mut D, arc: u32, item: Item) -> Result<(), QueueErr>
-        requires there { arc < paged_size self.old }
-        requires open { (paged_face self.old arc).ended ≡ false }
-        requires sound { IsSoundItem item }
-        requires together { PagedTogether self.old (known (D.log disk.old)) }
-        ensures face { OnOk result (paged_face self.new arc ≡ pushed (paged_face self.old arc) item.time) }
-        ensures faces { (other : ℕ) → other ≢ arc → paged_face self.new other ≡ paged_face self.old other }
-        ensures size { paged_size self.new ≡ paged_size self.old }
-        ensures frames { OnOk result (paged_frames self.new ≡ paged_frames self.old) }
-        ensures items { OnOk result (Tells (known (D.log disk.new)) → paged_items_on self.new (known (D.log disk.new)) arc ≡ paged_items_on self.old (known (D.log disk.old)) arc ++ item ∷ []) }
-        ensures others { OnOk result (Tells (known (D.log disk.new)) → (other : ℕ) → other ≢ arc → paged_items_on self.new (known (D.log disk.new)) other ≡ paged_items_on self.old (known (D.log disk.old)) other) }
-        ensures together { OnOk result (PagedTogether self.new (known (D.log disk.new))) }
-        ensures later { IsLater (D.log disk.old) (D.log disk.new) }
-
-        // Each refusal.
-        ensures disk { IfErr result (λ e. e ≡ QueueErr.Disk → Rose (D.faults disk.old) (D.faults disk.new)) }
-        ensures cause { IfErr result (λ e. IsPagedRefusal self.old self.new (D.log disk.old) (D.log disk.new) arc e) }
-        ensures honest { IfErr result (λ e. Honest (D.log disk.old) → IsTold e) }
-        ensures misfit { IfErr result (λ e. Tells (known (D.log disk.new)) → NoMisfit e) }
-        ensures faults { D.faults disk.old ≤ D.faults disk.new }
-    {
-        self.push(disk, arc, &item)
-    }
-
-    /// Takes the first item of an arc, where one stands. At an error all other arcs have the faces that they had, and the
-    /// queues are done: no call is to follow.
-    pub fn pop<D: PageDisk>(&mut self, disk: &mut D, arc: u32) -> Result<Item, QueueErr>
-        requires there { arc < paged_size self.old }
-        requires some { is_some (paged_face self.old arc).first ≡ true }
-        requires together { PagedTogether self.old (known (D.log disk.old)) }
-        ensures sound { IfOk result IsSoundItem }
-        ensures face { OnOk result (IsPopped (paged_face self.old arc) (paged_face self.new arc)) }
-        ensures faces { (other : ℕ) → other ≢ arc → paged_face self.new other ≡ paged_face self.old other }
-        ensures size { paged_size self.new ≡ paged_size self.old }
-        ensures frames { OnOk result (paged_frames self.new ≡ paged_frames self.old) }
-        ensures items { IfOk result (λ item. Tells (known (D.log disk.new)) → paged_items_on self.old (known (D.log disk.old)) arc ≡ item ∷ paged_items_on self.new (known (D.log disk.new)) arc) }
-        ensures first { IfOk result (λ item. IsFirstPaged self.old (D.log disk.old) (D.log disk.new) arc item) }
-        ensures others { OnOk result (Tells (known (D.log disk.new)) → (other : ℕ) → other ≢ arc → paged_items_on self.new (known (D.log disk.new)) other ≡ paged_items_on self.old (known (D.log disk.old)) other) }
-        ensures together { OnOk result (PagedTogether self.new (known (D.log disk.new))) }
-        ensures later { IsLater (D.log disk.old) (D.log disk.new) }
-
-        // Each refusal.
-        ensures disk { IfErr result (λ e. e ≡ QueueErr.Disk → Rose (D.faults disk.old) (D.faults disk.new)) }
-        ensures cause { IfErr result (λ e. IsPagedRefusal self.old self.new (D.log disk.old) (D.log disk.new) arc e) }
-        ensures honest { IfErr result (λ e. Honest (D.log disk.old) → IsTold e) }
-        ensures misfit { IfErr result (λ e. Tells (known (D.log disk.new)) → NoMisfit e) }
-        ensures faults { D.faults disk.old ≤ D.faults disk.new }
-    {
-        let item = match self.take(disk, arc) {
-            Ok(item) => item,
-            Err(e) => return Err(e),
-        };
-        let lane = self.lanes[arc as usize];
-        self.lanes[arc as usize] = popped_lane(lane, self.front_time(arc));
-        Ok(item)
-    }
-
-    /// What stands first on an arc.
-    pub fn head(&self, arc: u32) -> Head
-        requires { arc < paged_size self.now }
-        ensures { result ≡ head_by (paged_face self.now arc).ended (paged_face self.now arc).first }
-    {
-        let lane = self.lanes[arc as usize];
-        match lane.first {
-            Some(time) => Head::Time(time),
-            None => head_of_none(lane.ended),
-        }
-    }
-
-    /// An arc has ended: nothing more is pushed there.
-    pub fn end(&mut self, arc: u32)
-        requires { arc < paged_size self.old }
-        ensures face { paged_face self.new arc ≡ record (paged_face self.old arc) { ended = true } }
-        ensures faces { (other : ℕ) → other ≢ arc → paged_face self.new other ≡ paged_face self.old other }
-        ensures size { paged_size self.new ≡ paged_size self.old }
-        ensures frames { paged_frames self.new ≡ paged_frames self.old }
-        ensures items { (pages : Option Pages) (other : ℕ) → paged_items_on self.new pages other ≡ paged_items_on self.old pages other }
-        ensures together { (pages : Option Pages) → PagedTogether self.old pages → PagedTogether self.new pages }
-    {
-        self.lanes[arc as usize].ended = true;
-    }
-
-    /// How many items stand on an arc.
-    pub fn len(&self, arc: u32) -> u64
-        requires { arc < paged_size self.now }
-        ensures { result ≡ (paged_face self.now arc).count }
-    {
-        self.lanes[arc as usize].count
-    }
-
-    /// How many pages are in memory.
-    pub fn resident(&self) -> u32
-        ensures value { result ≡ paged_resident_of self.now }
-        ensures most { result ≤ paged_frames self.now }
-    {
-        self.pool.resident()
     }
 
     // Puts an item behind the last of an arc, into the last page or into a new one. Gives the node of that page.
@@ -479,6 +342,72 @@ impl Queues {
         self.chains.one_place_each();
         let node = self.chains.first(arc)?;
         Some(self.kept[node as usize].time)
+    }
+}
+
+impl ArcQueues for Queues {
+    ghost face = { paged_face };
+
+    ghost size = { paged_size };
+
+    ghost frames = { paged_frames };
+
+    ghost resident_of = { paged_resident_of };
+
+    ghost items_on = { paged_items_on };
+
+    ghost Together = { PagedTogether };
+
+    ghost IsFirst = { IsFirstPaged };
+
+    ghost IsRefusal = { IsPagedRefusal };
+
+    fn push<D: PageDisk>(&mut self, disk: &mut D, arc: u32, item: &Item) -> Result<(), QueueErr> {
+        let lane = self.lanes[arc as usize];
+        let Some(count) = lane.count.checked_add(1) else {
+            return Err(QueueErr::Memory);
+        };
+        let last = match self.add(disk, arc, item) {
+            Ok(node) => node,
+            Err(e) => return Err(e),
+        };
+        self.lanes[arc as usize] = Lane {
+            count,
+            first: Some(lane.first.unwrap_or(item.time)),
+            last: Some(last),
+            ended: lane.ended,
+        };
+        Ok(())
+    }
+
+    fn pop<D: PageDisk>(&mut self, disk: &mut D, arc: u32) -> Result<Item, QueueErr> {
+        let item = match self.take(disk, arc) {
+            Ok(item) => item,
+            Err(e) => return Err(e),
+        };
+        let lane = self.lanes[arc as usize];
+        self.lanes[arc as usize] = popped_lane(lane, self.front_time(arc));
+        Ok(item)
+    }
+
+    fn head(&self, arc: u32) -> Head {
+        let lane = self.lanes[arc as usize];
+        match lane.first {
+            Some(time) => Head::Time(time),
+            None => head_of_none(lane.ended),
+        }
+    }
+
+    fn end(&mut self, arc: u32) {
+        self.lanes[arc as usize].ended = true;
+    }
+
+    fn len(&self, arc: u32) -> u64 {
+        self.lanes[arc as usize].count
+    }
+
+    fn resident(&self) -> u32 {
+        self.pool.resident()
     }
 }
 

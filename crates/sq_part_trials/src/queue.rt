@@ -5,7 +5,7 @@ ghost use Rattle.sq_pool.specs.Trust.{known};
 use crate::numbers::mark_at;
 use sq_item::Mark;
 use sq_outside::{MemDisk, PageDisk};
-use sq_queue::{Head, QueueErr, Queues};
+use sq_queue::{ArcQueues, Head, QueueErr, Queues};
 use std::alloc::Global;
 use std::test::Fail;
 

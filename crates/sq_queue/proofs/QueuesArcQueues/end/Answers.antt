@@ -3,7 +3,7 @@ use Rattle.std.specs.Vec.{with_item}
 use Rattle.std.proofs.lemmas.Option.{slice_get_read}
 use Rattle.sq_queue.specs.declared.Lane.{Lane}
 use Rattle.sq_queue.proofs.TogetherLemmas.{written-together}
-use Rattle.sq_queue.proofs.Queues.end.Goals as goal
+use Rattle.sq_queue.proofs.QueuesArcQueues.end.Goals as goal
 
 pub returns-clause-together : goal.returns-clause-together
 returns-clause-together c told g =

@@ -13,7 +13,7 @@ use Rattle.sq_queue.specs.declared.Lane.{Lane}
 use Rattle.sq_queue.specs.declared.Queues.{Queues}
 use Rattle.sq_queue.proofs.LaneLemmas.{Takes, taken-lane, taken-face, taken-sound, other-face, front-counted}
 use Rattle.sq_queue.proofs.TogetherLemmas.{own-lane, written-together, read-together, same-lanes, taken-items, other-items}
-use Rattle.sq_queue.proofs.Queues.pop.Goals as goal
+use Rattle.sq_queue.proofs.QueuesArcQueues.pop.Goals as goal
 use Rattle.sq_words.proofs.Lists.{get_set_same}
 
 pub pop_behind-requires-clause-there : goal.pop_behind-requires-clause-there

@@ -3,7 +3,7 @@ use Rattle.std.proofs.Math.ListN.{set}
 use Rattle.std.specs.Vec.{with_item}
 use Rattle.sq_paged.specs.declared.Lane.{Lane}
 use Rattle.sq_paged.proofs.LaneLemmas.{lane-read, pushed-is, pushed-together}
-use Rattle.sq_paged.proofs.Queues.push.Goals as goal
+use Rattle.sq_paged.proofs.QueuesArcQueues.push.Goals as goal
 
 pub returns-clause-together : goal.returns-clause-together
 returns-clause-together g c =

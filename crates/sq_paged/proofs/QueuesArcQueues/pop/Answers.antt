@@ -2,7 +2,7 @@ use Rattle.std.proofs.Common.{◌∙◌, ap, ℕ, Option}
 use Rattle.std.proofs.Math.ListN.{set}
 use Rattle.std.specs.Vec.{with_item}
 use Rattle.sq_paged.proofs.LaneLemmas.{lane-read, other-face, popped, popped-face, popped-together}
-use Rattle.sq_paged.proofs.Queues.pop.Goals as goal
+use Rattle.sq_paged.proofs.QueuesArcQueues.pop.Goals as goal
 
 pub returns-clause-face : goal.returns-clause-face
 returns-clause-face g c =

@@ -1,7 +1,7 @@
 use Rattle.sq_pool.specs.Trust.{known}
 use Rattle.sq_pool.proofs.TrustLemmas.{IsLater-refl}
 use Rattle.sq_queue.proofs.RefusalLemmas.{on-refused, if-refused, memory-no-disk, memory-refusal, memory-told, memory-no-misfit}
-use Rattle.sq_queue.proofs.Queues.send.Goals as goal
+use Rattle.sq_queue.proofs.QueuesArcQueues.send.Goals as goal
 
 pub returns-in_err-put-clause-face : goal.returns-in_err-put-clause-face
 returns-in_err-put-clause-face g c = on-refused _ c.from_residual.result c.from_residual.ensures.0
@@ -53,6 +53,3 @@ put-requires-clause-room g c = c.has_room.ensures.0 c.if-has_room.true
 
 pub put-requires-clause-sound : goal.put-requires-clause-sound
 put-requires-clause-sound g c = c.requires.sound
-
-pub send_behind-requires-clause-sound : goal.send_behind-requires-clause-sound
-send_behind-requires-clause-sound g c = c.requires.sound
