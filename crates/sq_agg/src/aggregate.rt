@@ -143,7 +143,7 @@ impl<F: Fold + Drop> Operator for AggregateBox<F> {
         let fed = item.body.is_some();
         let open = first_open(self.panes.window.size, time);
         give_ended(
-            &self.panes,
+            &mut self.panes,
             &mut self.waiting,
             self.time,
             self.ends,

@@ -133,9 +133,10 @@ pub fn give_open<F: Fold + Drop, T: Outlet>(
     give_windows(panes, waiting, from, end, mid, out)
 }
 
-/// The same after an item of a time, which gives marks alone where no window ends before it.
+/// The same after an item of a time, which gives marks alone where no window ends before it. Where one does, the groups are put
+/// into their order first, so that it is found once for all windows and for what is forgotten then.
 pub fn give_ended<F: Fold + Drop, T: Outlet>(
-    panes: &Panes<F>,
+    panes: &mut Panes<F>,
     waiting: &mut Waiting,
     now: u64,
     ends: u64,
@@ -143,27 +144,28 @@ pub fn give_ended<F: Fold + Drop, T: Outlet>(
     mid: u64,
     out: &mut T,
 ) -> Result<(), AllocError>
-    requires window { IsWindow panes.now.window }
+    requires window { IsWindow panes.old.window }
     requires tick { now < 2 ^ 40 }
-    requires wide { 1 ≤ panes.now.width }
-    requires narrow { panes.now.width ≤ panes.now.window.size }
-    requires begun { AllByRecursion (λ e. e.0.0 * panes.now.width ≤ now + shift_of panes.now.window panes.now.width) (states_of panes.now.held) }
-    requires blocks { HaveBlocks (IsJoin (F.none panes.now.fold) (F.joined panes.now.fold) (F.made panes.now.fold) (F.number panes.now.fold)) panes.now.held }
-    requires made { AllAreMade (F.made panes.now.fold) (states_of panes.now.held) }
-    requires few { total (F.number panes.now.fold) (states_of panes.now.held) < 2 ^ 62 }
-    requires fit { AllByRecursion (λ e. FitsResult (F.width panes.now.fold) e.0.1) (states_of panes.now.held) }
-    requires waits { MarksWait panes.now.window.size now (bounds_of waiting.old).waiting }
-    requires ends { IsFirstEnd panes.now.window now ends }
+    requires wide { 1 ≤ panes.old.width }
+    requires narrow { panes.old.width ≤ panes.old.window.size }
+    requires begun { AllByRecursion (λ e. e.0.0 * panes.old.width ≤ now + shift_of panes.old.window panes.old.width) (states_of panes.old.held) }
+    requires blocks { HaveBlocks (IsJoin (F.none panes.old.fold) (F.joined panes.old.fold) (F.made panes.old.fold) (F.number panes.old.fold)) panes.old.held }
+    requires made { AllAreMade (F.made panes.old.fold) (states_of panes.old.held) }
+    requires few { total (F.number panes.old.fold) (states_of panes.old.held) < 2 ^ 62 }
+    requires fit { AllByRecursion (λ e. FitsResult (F.width panes.old.fold) e.0.1) (states_of panes.old.held) }
+    requires waits { MarksWait panes.old.window.size now (bounds_of waiting.old).waiting }
+    requires ends { IsFirstEnd panes.old.window now ends }
     requires later { now ≤ time }
-    requires mid { mid ≡ open_at panes.now.window.size time }
+    requires mid { mid ≡ open_at panes.old.window.size time }
     requires is_ready { T.ready out.old }
+    ensures panes { panes.new ≡ panes.old }
     ensures bounds { OnOk result (bounds_of waiting.new ≡ closed_at mid (bounds_of waiting.old)) }
     ensures given { OnOk result ((q : ℕ) → given q (T.items out.new)
-        ≡ given q (T.items out.old) ++ at_zero q (told_open (folding_of [] (F.none panes.now.fold) (F.joined panes.now.fold) (F.unit panes.now.fold) (F.told panes.now.fold))
-        panes.now.window panes.now.width now mid (bounds_of waiting.old) (states_of panes.now.held))) }
+        ≡ given q (T.items out.old) ++ at_zero q (told_open (folding_of [] (F.none panes.old.fold) (F.joined panes.old.fold) (F.unit panes.old.fold) (F.told panes.old.fold))
+        panes.old.window panes.old.width now mid (bounds_of waiting.old) (states_of panes.old.held))) }
     ensures prefix { OnErr result ((q : ℕ) → IsPrefixOf (given q (T.items out.new))
-        (given q (T.items out.old) ++ at_zero q (told_open (folding_of [] (F.none panes.now.fold) (F.joined panes.now.fold) (F.unit panes.now.fold) (F.told panes.now.fold))
-        panes.now.window panes.now.width now mid (bounds_of waiting.old) (states_of panes.now.held)))) }
+        (given q (T.items out.old) ++ at_zero q (told_open (folding_of [] (F.none panes.old.fold) (F.joined panes.old.fold) (F.unit panes.old.fold) (F.told panes.old.fold))
+        panes.old.window panes.old.width now mid (bounds_of waiting.old) (states_of panes.old.held)))) }
     ensures sound { ItemsSound (T.items out.old) → ItemsSound (T.items out.new) }
     ensures extends { IsPrefixOf (T.items out.old) (T.items out.new) }
     ensures drops { T.drops out.new ≡ T.drops out.old }
@@ -176,5 +178,6 @@ pub fn give_ended<F: Fold + Drop, T: Outlet>(
         }
         return give_marks_before(waiting, mid, out);
     }
+    panes.put_in_order();
     give_open(panes, waiting, now, mid, out)
 }

@@ -10,18 +10,19 @@ ghost use Rattle.sq_pane.specs.Blocks.{IsJoin};
 ghost use Rattle.sq_pane.specs.States.{states_of, HaveBlocks};
 ghost use Rattle.sq_agg.specs.Holdings.{FitsResult, IsSoundKey, results_of, tagged};
 
-use sq_aggfn::{Fold, Group};
+use sq_aggfn::Fold;
+use sq_groups::Key;
 use sq_item::{Body, Item, Sign};
 use sq_oper::Outlet;
-use sq_pane::Panes;
+use sq_pane::{Joined, Panes};
 use std::alloc::AllocError;
 
 /// Gives the result of a group in the window that begins at a tick.
 fn give_result<F: Fold, T: Outlet>(
     fold: &F,
     start: u64,
-    group: &Group,
-    state: &F::State,
+    group: &Key,
+    state: &Joined<'_, F::State>,
     out: &mut T,
 ) -> Result<(), AllocError>
     requires sound { IsSoundKey (F.width fold.now) (start, group.now) }
@@ -35,7 +36,7 @@ fn give_result<F: Fold, T: Outlet>(
     ensures stays_ready { OnOk result (T.ready out.new) }
     ensures came { (start : T) → T.came start out.old → T.came start out.new }
 {
-    let fields = fold.answer_after(group.as_slice(), state)?;
+    let fields = fold.answer_after(group.as_slice(), state.get())?;
     out.give(
         0,
         Item {

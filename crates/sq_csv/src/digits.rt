@@ -13,16 +13,11 @@ fn word_at(text: &[u8], at: usize) -> u64
     requires { at + 8 ≤ length text.now }
     ensures { result ≡ number_l 256 (take 8 (drop at text.now)) }
 {
-    u64::from_le_bytes([
-        text[at],
-        text[at + 1],
-        text[at + 2],
-        text[at + 3],
-        text[at + 4],
-        text[at + 5],
-        text[at + 6],
-        text[at + 7],
-    ])
+    // Byte by byte it is no single load where the first byte was looked at before.
+    match text[at..].first_chunk::<8>() {
+        Some(bytes) => u64::from_le_bytes(*bytes),
+        None => unreachable!(),
+    }
 }
 
 // The high bit of each byte that is no digit: only there is its lane 10 or more. No sum carries into the next byte.

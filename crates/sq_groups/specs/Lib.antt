@@ -1,3 +1,4 @@
 pub mod KeyWrites
 pub mod Ordered
 pub mod Lends
+pub mod KeyValues

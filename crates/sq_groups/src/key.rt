@@ -1,13 +1,15 @@
 //! The keys of a map of groups.
 
-ghost use Rattle.std.specs.Prelude.{◌≡◌, fold};
-ghost use Rattle.std.specs.Ordering.{nat_cmp};
+ghost use Rattle.std.specs.Prelude.{◌≡◌, fold, IfOk};
+ghost use Rattle.std.specs.Ordering.{is_eq, nat_cmp};
 ghost use Rattle.std.specs.Cmp.Lexicographic.{slice_cmp};
-ghost use Rattle.sq_value.specs.Values.{fields_cmp};
+ghost use Rattle.sq_value.specs.Values.{field, fields_cmp};
+ghost use Rattle.sq_aggfn.specs.Groups.{group_of};
 ghost use Rattle.sq_groups.specs.KeyWrites.{key_writes, value_writes};
 
-use sq_aggfn::{Group, compare_fields};
-use sq_value::{Value, compare_bytes};
+use sq_aggfn::{Group, compare_fields, group_of};
+use sq_value::{Tuple, Value, compare_bytes, copy_value};
+use std::alloc::{AllocError, Global};
 use std::cmp::Ordering;
 use std::hash::{Hash, Hasher};
 use std::marker::Model;
@@ -70,19 +72,37 @@ fn hash_values<H: Hasher>(values: &[Value], state: &mut H)
     }
 }
 
+/// The value at a place, Null where there is none.
+fn copy_at(fields: &[Value], place: u32) -> Result<Value, AllocError>
+    ensures { IfOk result (λ v. v ≡ field fields.now place) }
+{
+    match fields.get(place as usize) {
+        Some(value) => copy_value(value),
+        None => Ok(Value::Null),
+    }
+}
+
+/// Where the values of a key lie: one in the key itself, so that a look-up in a map reads no other memory for it.
+#[derive(Drop)]
+enum Lying {
+    One(Value),
+    Many(Group),
+}
+
 /// A group in a map of groups. Contracts see its list of values.
 #[derive(Drop)]
 pub struct Key {
-    group: Group,
+    lying: Lying,
 }
 
 impl Model for Key {
     ghost use Rattle.std.specs.Prelude.{List};
     ghost use Rattle.sq_value.specs.declared.Value.{Value as Datum};
+    ghost use Rattle.sq_groups.specs.KeyValues.{values_lying};
 
     ghost Value = { List Datum };
 
-    ghost view = { λ k. k.group };
+    ghost view = { λ k. values_lying k.lying };
 }
 
 impl Key {
@@ -91,15 +111,45 @@ impl Key {
     pub fn new(group: Group) -> Key
         ensures { result ≡ group }
     {
-        Key { group }
+        Key {
+            lying: Lying::Many(group),
+        }
     }
 
-    /// The group that it is the key of.
-    #[inline]
-    pub fn group(&self) -> &Group
+    /// The key of the group of a tuple by some places.
+    pub fn of(alloc: Global, by: &[u32], t: &Tuple) -> Result<Key, AllocError>
+        ensures { IfOk result (λ k. k ≡ group_of by.now t.now) }
+    {
+        match by {
+            [place] => {
+                let value = copy_at(t.fields.as_slice(), *place)?;
+                Ok(Key {
+                    lying: Lying::One(value),
+                })
+            }
+            _ => {
+                let group = group_of(alloc, by, t)?;
+                Ok(Key::new(group))
+            }
+        }
+    }
+
+    /// The values of the group that it is the key of.
+    #[inline(always)]
+    pub fn as_slice(&self) -> &[Value]
         ensures { result.now ≡ self.now }
     {
-        &self.group
+        match &self.lying {
+            Lying::One(value) => std::slice::from_ref(value),
+            Lying::Many(group) => group.as_slice(),
+        }
+    }
+
+    /// Whether it is the key of a group.
+    pub fn is_of(&self, group: &Group) -> bool
+        ensures { result ≡ is_eq (fields_cmp group.now self.now) }
+    {
+        compare_fields(group.as_slice(), self.as_slice()) == Ordering::Equal
     }
 }
 
@@ -158,7 +208,7 @@ impl Ord for Key {
 
     #[inline(always)]
     fn cmp(&self, other: &Key) -> Ordering {
-        compare_keys(self.group.as_slice(), other.group.as_slice())
+        compare_keys(self.as_slice(), other.as_slice())
     }
 }
 
@@ -175,7 +225,7 @@ impl Hash for Key {
 
     #[inline(always)]
     fn hash<H: Hasher>(&self, state: &mut H) {
-        match self.group.as_slice() {
+        match self.as_slice() {
             [Value::Text(text)] => state.write(text.as_bytes()),
             values => hash_values(values, state),
         }

@@ -140,6 +140,16 @@ impl<V> GroupMap<V> {
     }
 }
 
+impl<V> GroupMap<V> {
+    /// Puts the entries into the order of groups, unless they stand in it, so that nobody has to sort them until another group
+    /// comes. For want of memory they stay as they stand.
+    pub fn put_in_order(&mut self)
+        ensures { self.new ≡ self.old }
+    {
+        self.sorted = sort_held(&mut self.held, self.sorted);
+    }
+}
+
 impl<V: Drop> GroupMap<V> {
     /// A value for a group that has none. After want of memory the map is as it was.
     pub fn insert(&mut self, key: Key, value: V) -> Result<(), AllocError>

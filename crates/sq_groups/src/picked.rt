@@ -211,6 +211,6 @@ impl<'a> Equivalent<Key> for &Picked<'a> {
 
     #[inline(always)]
     fn equivalent(&self, key: &Key) -> bool {
-        self.compare_with(key.group().as_slice()) == Ordering::Equal
+        self.compare_with(key.as_slice()) == Ordering::Equal
     }
 }

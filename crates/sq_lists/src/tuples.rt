@@ -42,7 +42,7 @@ pub fn filter_list(
 pub fn map_tuple(alloc: Global, exprs: &[Typed], tuple: &Tuple) -> Result<Tuple, AllocError>
     ensures { IfOk result (λ m. m ≡ mapped (map (λ e. e.tree) exprs.now) tuple.now) }
 {
-    let mut fields = Vec::new(alloc);
+    let mut fields = Vec::with_capacity(alloc, exprs.len())?;
     for e in exprs {
         fields.push(eval(e, tuple)?)?;
     }

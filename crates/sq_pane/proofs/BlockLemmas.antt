@@ -2,7 +2,7 @@
 use Rattle.std.proofs.Common.{◌≡◌, ℕ, zero, suc, ◌+◌, ◌-◌, ◌*◌, ◌<◌, ◌≤◌, length, length-drop, get_or, take, drop, List, [], ◌∷◌, ◌++◌, Bool, true, false, cond, Option, Some, None, Result, Ok, Err, OnOk, OnErr, refl, ap, ap₂, sym, ◌∙◌, subst, Ordering, Less, Equal, Greater, nat_cmp, arith, tests}
 use Rattle.std.proofs.Math.Seq.{drop-nil}
 use Rattle.std.proofs.lemmas.List.{drop_more, get_or-drop, get_or_default}
-use Rattle.std.specs.Prelude.{if◌then◌else◌, nat_lt, nat_le, ◌&&◌, unwrap_or}
+use Rattle.std.specs.Prelude.{if◌then◌else◌, nat_lt, nat_le, ◌==◌, ◌&&◌, unwrap_or}
 use Rattle.std.specs.Ordering.{match_ordering}
 use Rattle.std.specs.List.{AllByRecursion, filter, remove}
 use Rattle.sq_aggfn.specs.declared.WindowSpec.{WindowSpec}
@@ -322,3 +322,8 @@ both_ends (Err e) x y f h = h y
 pub shaped_if : {M : Type 0} (made shaped : M → Type 0) (none : M) → ((m : M) → made m → shaped m) → shaped none → (o : Option M) → IsMadeIf made o → shaped (unwrap_or o none)
 shaped_if made shaped none from sn None is = sn
 shaped_if made shaped none from sn (Some m) is = from m is
+
+-- blocks stand where there are some
+pub blocks_within : {M : Type 0} (size : ℕ) (P : List (ℕ × M) → M → Type 0) (ahead : ℕ) (bs : List M) (es : List (ℕ × M)) → AreBlocks size P bs (drop ahead es) → (length bs == 0) ≡ false → ahead ≤ length es
+blocks_within size P ahead [] es all some = cc
+blocks_within size P ahead (b ∷ bs) es all some = (let room = all.0 in let long = length-drop ahead es in omega (arith, room, long))

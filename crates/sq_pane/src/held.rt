@@ -7,9 +7,10 @@ ghost use Rattle.sq_pane.specs.Panes.{key_cmp, from_pane, window_from, total, Al
 ghost use Rattle.sq_pane.specs.Blocks.{IsJoin};
 ghost use Rattle.sq_pane.specs.States.{states_of, HaveBlocks};
 
+use crate::joined::Joined;
 use crate::line::{Line, add_to_line, joined_in, keep_from, line_of_one};
 use crate::width::pane_shift;
-use sq_aggfn::{Fold, Group, WindowSpec, group_of};
+use sq_aggfn::{Fold, WindowSpec};
 use sq_groups::{GroupMap, Key, Picked};
 use sq_value::Tuple;
 use std::alloc::{AllocError, Global};
@@ -22,7 +23,7 @@ pub fn add_at_key<F: Fold>(
     alloc: Global,
     fold: &F,
     held: &mut Held<F::State>,
-    key: (u64, Group),
+    key: (u64, Key),
     t: &Tuple,
 ) -> Result<(), AllocError>
     requires made { AllAreMade (F.made fold.now) (states_of held.old) }
@@ -33,8 +34,7 @@ pub fn add_at_key<F: Fold>(
     ensures err { OnErr result (states_of held.new ≡ states_of held.old) }
     ensures blocks { HaveBlocks (IsJoin (F.none fold.now) (F.joined fold.now) (F.made fold.now) (F.number fold.now)) held.old → HaveBlocks (IsJoin (F.none fold.now) (F.joined fold.now) (F.made fold.now) (F.number fold.now)) held.new }
 {
-    let (pane, group) = key;
-    let key = Key::new(group);
+    let (pane, key) = key;
     let _count = held.len();
     if let Some(line) = held.get_mut(&key) {
         return add_to_line(fold, line, pane, t);
@@ -44,7 +44,7 @@ pub fn add_at_key<F: Fold>(
     Ok(())
 }
 
-/// The same at a pane and the group of the tuple by some places. That group is made only where it has no state yet.
+/// The same at a pane and the group of the tuple by some places. Its key is made only where it has no state yet.
 pub fn add_at_places<F: Fold>(
     alloc: Global,
     fold: &F,
@@ -66,8 +66,8 @@ pub fn add_at_places<F: Fold>(
     if let Some(line) = held.get_mut_at(&picked) {
         return add_to_line(fold, line, pane, t);
     }
-    let group = group_of(alloc, by, t)?;
-    add_at_key(alloc, fold, held, (pane, group), t)
+    let key = Key::of(alloc, by, t)?;
+    add_at_key(alloc, fold, held, (pane, key), t)
 }
 
 /// Takes the states of all panes before a number out.
@@ -80,14 +80,14 @@ pub fn forget_before<F: Fold>(fold: &F, held: &mut Held<F::State>, pane: u128)
 
 /// Puts a group behind the others, where it has a state.
 fn push_some<'a, S: Drop>(
-    groups: &mut Vec<(&'a Group, S)>,
-    group: &'a Group,
-    state: Option<S>,
+    groups: &mut Vec<(&'a Key, Joined<'a, S>)>,
+    key: &'a Key,
+    state: Option<Joined<'a, S>>,
 ) -> Result<(), AllocError>
-    ensures { OnOk result (map lent_group groups.new.items ≡ map lent_group groups.old.items ++ group_entry group.now state) }
+    ensures { OnOk result (map lent_group groups.new.items ≡ map lent_group groups.old.items ++ group_entry key.now state.entry) }
 {
     if let Some(state) = state {
-        groups.push((group, state))?;
+        groups.push((key, state))?;
     }
     Ok(())
 }
@@ -101,7 +101,7 @@ pub fn groups_at<'a, F: Fold>(
     window: WindowSpec,
     width: u64,
     start: u64,
-) -> Result<Vec<(&'a Group, F::State)>, AllocError>
+) -> Result<Vec<(&'a Key, Joined<'a, F::State>)>, AllocError>
     requires blocks { by_blocks ≡ true → HaveBlocks (IsJoin (F.none fold.now) (F.joined fold.now) (F.made fold.now) (F.number fold.now)) held.now }
     requires made { AllAreMade (F.made fold.now) (states_of held.now) }
     requires few { total (F.number fold.now) (states_of held.now) < 2 ^ 62 }
@@ -114,7 +114,7 @@ pub fn groups_at<'a, F: Fold>(
     let shift = pane_shift(window, width);
     for entry in &entries {
         let joined = joined_in(fold, entry.1, by_blocks, window, width, shift, start)?;
-        push_some(&mut groups, entry.0.group(), joined)?;
+        push_some(&mut groups, entry.0, joined)?;
     }
     Ok(groups)
 }

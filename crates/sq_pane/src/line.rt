@@ -8,6 +8,7 @@ ghost use Rattle.sq_pane.specs.Blocks.{joined_onto, IsJoin, AreBlocks, begins_be
 ghost use Rattle.sq_pane.specs.Panes.{NumbersRise, Rises-prop, shift_of, within, joined_within, total, AllAreMade, IsMadeIf};
 ghost use Rattle.sq_aggfn.specs.Folds.{number_if};
 
+use crate::joined::Joined;
 use sq_aggfn::{Fold, WindowSpec};
 use sq_value::Tuple;
 use std::alloc::{AllocError, Global};
@@ -488,16 +489,27 @@ fn joined_by_blocks<F: Fold>(
     joined_through(fold, joined, states, at, count, window, width, shift, start)
 }
 
-/// The join of the states that the window that starts at a tick covers, where there is one; by the blocks, if so told.
-pub fn joined_in<F: Fold>(
+/// A state that may be there, of its own.
+fn owned<'a, S: Drop>(state: Option<S>) -> Option<Joined<'a, S>>
+    ensures { result ≡ state }
+{
+    match state {
+        None => None,
+        Some(own) => Some(Joined::own(own)),
+    }
+}
+
+/// The join of the states that the window that starts at a tick covers, where there is one; by the blocks, if so told and
+/// where there are some. A state that it covers alone is lent.
+pub fn joined_in<'a, F: Fold>(
     fold: &F,
-    line: &Line<F::State>,
+    line: &'a Line<F::State>,
     by_blocks: bool,
     window: WindowSpec,
     width: u64,
     shift: u64,
     start: u64,
-) -> Result<Option<F::State>, AllocError>
+) -> Result<Option<Joined<'a, F::State>>, AllocError>
     requires shift { shift ≡ shift_of window width }
     requires blocks { by_blocks ≡ true → AreBlocks 64 (IsJoin (F.none fold.now) (F.joined fold.now) (F.made fold.now) (F.number fold.now)) line.now.blocks.items (drop line.now.ahead line.now.states.items) }
     requires made { AllAreMade (F.made fold.now) line.now.states.items }
@@ -506,10 +518,21 @@ pub fn joined_in<F: Fold>(
     ensures made { IfOk result (λ o. IsMadeIf (F.made fold.now) o) }
     ensures few { IfOk result (λ o. number_if (F.number fold.now) o ≤ total (F.number fold.now) line.now.states.items) }
 {
-    let count = line.states.len();
-    if by_blocks && line.ahead < count {
-        return joined_by_blocks(fold, line, window, width, shift, start);
+    if by_blocks && !line.blocks.is_empty() {
+        let own = joined_by_blocks(fold, line, window, width, shift, start)?;
+        return Ok(owned(own));
     }
     let states = &line.states;
-    joined_of(fold, states, 0, count, window, width, shift, start)
+    let count = states.len();
+    let at = first_within(states, 0, count, window, width, shift, start);
+    if at == count {
+        return Ok(None);
+    }
+    let next = at + 1;
+    let end = end_within(states, at, count, window, width, shift, start);
+    if end == next {
+        return Ok(Some(Joined::lent(&states[at].1)));
+    }
+    let own = joined_of(fold, states, at, end, window, width, shift, start)?;
+    Ok(owned(own))
 }

@@ -1,11 +1,15 @@
-use Rattle.std.proofs.Common.{◌++◌, [], subst, ap, sym, ◌∙◌, append-nil}
+use Rattle.std.proofs.Common.{◌+◌, ◌*◌, ◌^◌, ◌<◌, ◌≤◌, ◌++◌, [], subst, ap, sym, ◌∙◌, append-nil, arith}
+use Rattle.std.specs.List.{AllByRecursion}
 use Rattle.std.proofs.lemmas.Result.{on_ok_weaker, on_err_weaker}
 use Rattle.sq_words.specs.Lists.{IsPrefixOf}
+use Rattle.sq_aggfn.specs.Windows.{IsWindow}
 use Rattle.sq_oper.specs.Outflow.{given}
 use Rattle.sq_oper.specs.Streams.{at_zero}
 use Rattle.sq_oper.proofs.StreamLemmas.{at_zero-nil}
-use Rattle.sq_pane.specs.States.{states_of}
-use Rattle.sq_agg.specs.Holdings.{bounds_of, due_before, folding_of}
+use Rattle.sq_pane.specs.Panes.{shift_of, total, AllAreMade}
+use Rattle.sq_pane.specs.Blocks.{IsJoin}
+use Rattle.sq_pane.specs.States.{states_of, HaveBlocks}
+use Rattle.sq_agg.specs.Holdings.{FitsResult, MarksWait, bounds_of, due_before, folding_of, told_open}
 use Rattle.sq_agg.proofs.DueLemmas.{due_alone, none_closed, none_waits}
 use Rattle.sq_agg.proofs.EndLemmas.{only_marks}
 use Rattle.sq_agg.proofs.FeedLemmas.{sound_marks}
@@ -48,3 +52,56 @@ returns-then-time-ends-clause-prefix g c =
     (λ e q. subst (IsPrefixOf (given q (g.T.Outlet.items c.give_marks_before.new.out)))
     (ap (λ l. given q (g.T.Outlet.items c.args.out.now) ++ at_zero q l) (sym (due_alone f.told c.args.mid x.waiting) ∙ sym told)) (e q))
     c.give_marks_before.ensures.prefix
+
+pub give_open-requires-clause-window : goal.give_open-requires-clause-window
+give_open-requires-clause-window g c = subst (λ z. IsWindow z.window) (sym c.put_in_order.ensures) c.requires.window
+
+pub give_open-requires-clause-wide : goal.give_open-requires-clause-wide
+give_open-requires-clause-wide g c = subst (λ z. 1 ≤ z.width) (sym c.put_in_order.ensures) c.requires.wide
+
+pub give_open-requires-clause-narrow : goal.give_open-requires-clause-narrow
+give_open-requires-clause-narrow g c = subst (λ z. z.width ≤ z.window.size) (sym c.put_in_order.ensures) c.requires.narrow
+
+pub give_open-requires-clause-begun : goal.give_open-requires-clause-begun
+give_open-requires-clause-begun g c = subst (λ z. AllByRecursion (λ e. e.0.0 * z.width ≤ c.args.now + shift_of z.window z.width) (states_of z.held)) (sym c.put_in_order.ensures) c.requires.begun
+
+pub give_open-requires-clause-blocks : goal.give_open-requires-clause-blocks
+give_open-requires-clause-blocks g c =
+    subst (λ z. HaveBlocks (IsJoin (g.F.Fold.none z.fold) (g.F.Fold.joined z.fold) (g.F.Fold.made z.fold) (g.F.Fold.number z.fold)) z.held) (sym c.put_in_order.ensures) c.requires.blocks
+
+pub give_open-requires-clause-made : goal.give_open-requires-clause-made
+give_open-requires-clause-made g c = subst (λ z. AllAreMade (g.F.Fold.made z.fold) (states_of z.held)) (sym c.put_in_order.ensures) c.requires.made
+
+pub give_open-requires-clause-few : goal.give_open-requires-clause-few
+give_open-requires-clause-few g c = subst (λ z. total (g.F.Fold.number z.fold) (states_of z.held) < 2 ^ 62) (sym c.put_in_order.ensures) c.requires.few
+
+pub give_open-requires-clause-fit : goal.give_open-requires-clause-fit
+give_open-requires-clause-fit g c = subst (λ z. AllByRecursion (λ e. FitsResult (g.F.Fold.width z.fold) e.0.1) (states_of z.held)) (sym c.put_in_order.ensures) c.requires.fit
+
+pub give_open-requires-clause-waits : goal.give_open-requires-clause-waits
+give_open-requires-clause-waits g c = subst (λ z. MarksWait z.window.size c.args.now (bounds_of c.args.waiting.now).waiting) (sym c.put_in_order.ensures) c.requires.waits
+
+pub give_open-requires-clause-later : goal.give_open-requires-clause-later
+give_open-requires-clause-later g c =
+    let size = ap (λ z. z.window.size) c.put_in_order.ensures in
+    let later = c.requires.later in
+    let mid = c.requires.mid in
+    omega (arith, size, later, mid)
+
+pub returns-clause-given : goal.returns-clause-given
+returns-clause-given g c =
+    on_ok_weaker c.give_open.result
+    (λ e q. e q
+    ∙ ap (λ z. given q (g.T.Outlet.items c.args.out.now)
+    ++ at_zero q (told_open (folding_of [] (g.F.Fold.none z.fold) (g.F.Fold.joined z.fold) (g.F.Fold.unit z.fold) (g.F.Fold.told z.fold)) z.window z.width c.args.now c.args.mid (bounds_of c.args.waiting.now) (states_of z.held)))
+    c.put_in_order.ensures)
+    c.give_open.ensures.given
+
+pub returns-clause-prefix : goal.returns-clause-prefix
+returns-clause-prefix g c =
+    on_err_weaker c.give_open.result
+    (λ e q. subst (λ z. IsPrefixOf (given q (g.T.Outlet.items c.give_open.new.out))
+    (given q (g.T.Outlet.items c.args.out.now)
+    ++ at_zero q (told_open (folding_of [] (g.F.Fold.none z.fold) (g.F.Fold.joined z.fold) (g.F.Fold.unit z.fold) (g.F.Fold.told z.fold)) z.window z.width c.args.now c.args.mid (bounds_of c.args.waiting.now) (states_of z.held))))
+    c.put_in_order.ensures (e q))
+    c.give_open.ensures.prefix

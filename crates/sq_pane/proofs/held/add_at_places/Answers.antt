@@ -79,7 +79,7 @@ pub returns-clause-added : goal.returns-clause-added
 returns-clause-added g c =
     let fold = c.args.fold.now in
     on_ok_weaker c.add_at_key.result
-    (λ e. e ∙ ap₂ (λ k ls. added key_cmp (g.F.Fold.none fold) (g.F.Fold.joined fold) (c.args.pane, k) (g.F.Fold.unit fold c.args.t.now) (states_of ls)) c.in_ok-group.ensures c.get_mut_at.follows.holds-at-none)
+    (λ e. e ∙ ap₂ (λ k ls. added key_cmp (g.F.Fold.none fold) (g.F.Fold.joined fold) (c.args.pane, k) (g.F.Fold.unit fold c.args.t.now) (states_of ls)) c.in_ok-key.ensures c.get_mut_at.follows.holds-at-none)
     c.add_at_key.ensures.added
 
 pub returns-clause-total : goal.returns-clause-total
