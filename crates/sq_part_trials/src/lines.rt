@@ -101,7 +101,14 @@ fn end_lines_are_of_the_boxes_from_one_on(rt: HostRuntime) -> Result<(), Fail> {
     let tapped = tapped(alloc)?;
     let fed = vec![in alloc; 16, 8, 6]?;
     let late = vec![in alloc; 0, 0, 0]?;
-    let all = end_in(alloc, &tapped, 0, &fed, &late, b"@box,a1,16\n@box,tap,8\n@box,q,6\n@end\n")?;
+    let all = end_in(
+        alloc,
+        &tapped,
+        0,
+        &fed,
+        &late,
+        b"@box,a1,16\n@box,tap,8\n@box,q,6\n@end\n",
+    )?;
     let last = end_in(alloc, &tapped, 2, &fed, &late, b"@box,q,6\n@end\n")?;
     let none = end_in(alloc, &tapped, 3, &fed, &late, b"@end\n")?;
     assert!(rt; all && last && none);

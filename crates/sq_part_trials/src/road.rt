@@ -8,7 +8,7 @@ use std::alloc::Global;
 use std::test::Fail;
 
 /// The losses of the graph (0,0), (500, middle), (1000,1000000) with weight 1.
-fn losses_of(alloc: Global, middle: u32) -> Result<[u128; 20], GraphErr>
+pub fn losses_of(alloc: Global, middle: u32) -> Result<[u128; 20], GraphErr>
     ensures in_order { IfOk result (λ l. IsNonDecreasing l) }
     ensures together { IfOk result (λ l. sum l ≤ 232792560 * 1000000) }
 {
@@ -135,8 +135,7 @@ fn road_of_none(alloc: Global) -> Result<Road, Fail> {
 // The row of no steps, which loses nothing.
 fn is_empty_row(road: &Road, load: u128, capacity: u128, fits: bool) -> bool {
     let row = road.row_for(load, capacity);
-    (row.taken, row.saved, row.loss, row.fits) == (0, 0, 0, fits)
-        && row.ratio == Frac::new(0, 1)
+    (row.taken, row.saved, row.loss, row.fits) == (0, 0, 0, fits) && row.ratio == Frac::new(0, 1)
 }
 
 #[test]
