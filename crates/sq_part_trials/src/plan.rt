@@ -1,10 +1,12 @@
 // The network that a number makes, with 3600 tuples in an epoch: what its streams carry, what its boxes cost, and the plan of the next.
 ghost use Rattle.std.specs.Prelude.{◌≡◌, ◌≤◌, ◌<◌, ◌^◌, ℕ, [], ◌∷◌, IfOk, OnOk, length};
-ghost use Rattle.std.specs.List.{AllByRecursion};
+ghost use Rattle.std.specs.List.{All, AllByRecursion, sum, sum_by};
+ghost use Rattle.std.specs.List.Sorted.{IsNonDecreasing};
 ghost use Rattle.sq_graph.specs.Order.{IsWired, LiesOnCycle};
 ghost use Rattle.sq_graph.specs.Wires.{producers_of};
 ghost use Rattle.sq_plan.specs.Flows.{AreTolls};
 
+use crate::road::losses_of;
 use sq_graph::{BoxKind, BoxWires, Wiring, order};
 use sq_place::{DropAt, DropPoint};
 use sq_plan::{Capacities, Planned, Planner, Toll, loads, rates};
@@ -13,30 +15,6 @@ use sq_road::Levels;
 use sq_value::ListOf;
 use std::alloc::{AllocError, Global};
 use std::test::Fail;
-
-/// What the drop loses by each step: of `avgs` 50,000 a step, of `tops` 20,000 and behind the middle 80,000, times 232,792,560.
-const LOSSES: [u128; 20] = [
-    16_295_479_200_000,
-    16_295_479_200_000,
-    16_295_479_200_000,
-    16_295_479_200_000,
-    16_295_479_200_000,
-    16_295_479_200_000,
-    16_295_479_200_000,
-    16_295_479_200_000,
-    16_295_479_200_000,
-    16_295_479_200_000,
-    30_263_032_800_000,
-    30_263_032_800_000,
-    30_263_032_800_000,
-    30_263_032_800_000,
-    30_263_032_800_000,
-    30_263_032_800_000,
-    30_263_032_800_000,
-    30_263_032_800_000,
-    30_263_032_800_000,
-    30_263_032_800_000,
-];
 
 fn box_of(alloc: Global, kind: BoxKind, stream: u32) -> Result<BoxWires, AllocError>
     ensures { IfOk result (λ b. b ≡ record { kind = kind; inputs = stream ∷ []; ports = 1 }) }
@@ -140,8 +118,26 @@ fn point(alloc: Global) -> Result<DropPoint, AllocError>
     })
 }
 
+fn points(alloc: Global) -> Result<Vec<DropPoint>, AllocError>
+    ensures one { IfOk result (λ v. length v.items ≡ 1) }
+    ensures below { IfOk result (λ v. All (λ p. length p.boxes ≤ 128) v.items) }
+{
+    let point = point(alloc)?;
+    Ok(vec![in alloc; point]?)
+}
+
+/// What `tops` loses by each step of the drop; the other output is given no weight, which leaves the order of one drop's steps as it is.
+fn losses(alloc: Global) -> Result<Vec<[u128; 20]>, Fail>
+    ensures one { IfOk result (λ v. length v.items ≡ 1) }
+    ensures in_order { IfOk result (λ v. All (λ l. IsNonDecreasing l) v.items) }
+    ensures together { IfOk result (λ v. sum_by sum v.items < 2 ^ 63) }
+{
+    let tops = losses_of(alloc, 800000)?;
+    Ok(vec![in alloc; tops]?)
+}
+
 /// A planner with a capacity of 12,000,000,000 from epoch 1 on.
-fn planner(alloc: Global, wires: &Wiring) -> Result<Planner, AllocError>
+fn planner(alloc: Global, wires: &Wiring) -> Result<Planner, Fail>
     requires boxes { length wires.now.boxes ≤ 128 }
     requires inputs { AllByRecursion (λ b. length b.inputs ≤ 8) wires.now.boxes }
     requires streams { length (producers_of wires.now) < 2 ^ 32 }
@@ -149,11 +145,11 @@ fn planner(alloc: Global, wires: &Wiring) -> Result<Planner, AllocError>
     requires acyclic { (b : ℕ) → LiesOnCycle wires.now b → ⊥ }
 {
     let tolls = tolls(alloc)?;
-    let point = point(alloc)?;
-    let points = vec![in alloc; point]?;
-    let losses = vec![in alloc; LOSSES]?;
+    let points = points(alloc)?;
+    let losses = losses(alloc)?;
     let capacities = Capacities::new(vec![in alloc; (1, Some(12_000_000_000))]?);
-    Planner::new(alloc, wires, &tolls, &points, &losses, &capacities)
+    let planner = Planner::new(alloc, wires, &tolls, &points, &losses, &capacities)?;
+    Ok(planner)
 }
 
 /// The plan of epoch 1.
@@ -170,8 +166,8 @@ fn takes_ten(planned: Planned) -> bool {
     let row = planned.row;
     (planned.load, planned.capacity) == (19_198_800_000, Some(12_000_000_000))
         && (row.taken, row.saved, row.fits) == (10, 7_799_400_000, true)
-        && row.loss == 162_954_792_000_000
-        && row.ratio == Frac::new(16_295_479_200_000, 779_940_000)
+        && row.loss == 46_558_512_000_000
+        && row.ratio == Frac::new(4_655_851_200_000, 779_940_000)
 }
 
 #[test]

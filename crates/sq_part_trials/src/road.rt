@@ -8,7 +8,7 @@ use std::alloc::Global;
 use std::test::Fail;
 
 /// The losses of the graph (0,0), (500, middle), (1000,1000000) with weight 1.
-fn losses_of(alloc: Global, middle: u32) -> Result<[u128; 20], GraphErr>
+pub fn losses_of(alloc: Global, middle: u32) -> Result<[u128; 20], GraphErr>
     ensures in_order { IfOk result (λ l. IsNonDecreasing l) }
     ensures together { IfOk result (λ l. sum l ≤ 232792560 * 1000000) }
 {
