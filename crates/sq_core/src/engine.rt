@@ -54,7 +54,7 @@ impl Engine {
     ghost use Rattle.sq_flow.specs.Flows.{HoldsItems, decisions_left, items_in, lines_left};
     ghost use Rattle.sq_flow.specs.Plans.{plans_left};
     ghost use Rattle.sq_flow.specs.Engines.{AllDone};
-    ghost use Rattle.sq_flow.specs.Stepping.{Keeps, stage};
+    ghost use Rattle.sq_flow.specs.Stepping.{Remains, stage};
     ghost use Rattle.sq_core.specs.Meanings.{actors};
     ghost use Rattle.sq_core.specs.Runs.{IsSoundEngine, IsRun, ShownSoFar, ShownAll, fed_at, late_at_seat};
     ghost use Rattle.sq_core.specs.Steps.{RunFails, RunsOn};
@@ -131,7 +131,7 @@ impl Engine {
         requires ready { contains_number self.old.engine.ready.list pick.actor ≡ true }
         requires some { 1 ≤ pick.train }
         ensures network { self.new.network ≡ self.old.network }
-        ensures keeps { Keeps (stage D.PageDisk self.old.engine.flow disk.old events.old.items steps.old)
+        ensures keeps { Remains (stage D.PageDisk self.old.engine.flow disk.old events.old.items steps.old)
             (stage D.PageDisk self.new.engine.flow disk.new events.new.items steps.new) }
         ensures ok { IfOk result (RunsOn pick (stage D.PageDisk self.old.engine.flow disk.old events.old.items steps.old)
             (stage D.PageDisk self.new.engine.flow disk.new events.new.items steps.new) self.old self.new) }

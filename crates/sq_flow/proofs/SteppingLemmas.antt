@@ -16,21 +16,21 @@ use Rattle.sq_flow.specs.Causes.{IsFeedCause}
 use Rattle.sq_flow.specs.Flows.{IsFlow, FailsAt, measure_of}
 use Rattle.sq_flow.specs.Readiness.{IsReady, Took}
 use Rattle.sq_flow.specs.Seats.{done_at}
-use Rattle.sq_flow.specs.Stepping.{Stage, Keeps, Moves, StepOk, TrainOk, StepErr}
+use Rattle.sq_flow.specs.Stepping.{Stage, Remains, Proceeds, StepOk, TrainOk, StepErr}
 use Rattle.sq_flow.proofs.StepLemmas.{stepped-none, stepped-both, prefix-after, plans-after, none-strange-after, costs-after, costs-most-after, too-much-after}
 use Rattle.sq_flow.proofs.CauseLemmas.{cause-since}
 use Rattle.sq_flow.proofs.TouchLemmas.{touches-none, touches-both}
 use Rattle.sq_flow.proofs.TookLemmas.{took-both, took-last}
 
-keeps-none : {O : Type 0} (a : Stage O) → Keeps a a
+keeps-none : {O : Type 0} (a : Stage O) → Remains a a
 keeps-none a = record { faults = le_refl _; later = IsLater-refl _; stay = prefix_itself a.events }
 
-keeps-both : {O : Type 0} (a b c : Stage O) → Keeps a b → Keeps b c → Keeps a c
+keeps-both : {O : Type 0} (a b c : Stage O) → Remains a b → Remains b c → Remains a c
 keeps-both a b c p q = record { faults = le_trans p.faults q.faults; later = IsLater-trans _ _ _ p.later q.later; stay = prefix_along _ _ _ p.stay q.stay }
 
 -- a train between two steps, each of which fed
 pub record Underway {O : Type 0} (m : Ghosts O) (actor fed : ℕ) (a b : Stage O) : Type 0 where
-  pub moves : Moves m actor a b
+  pub moves : Proceeds m actor a b
   pub falls : measure_of b.flow + fed ≤ measure_of a.flow
   pub begun : fed ≡ 0 → b.flow ≡ a.flow
   pub took : done_at a.flow.over (slice_get a.flow.seats.items actor) ≡ false → Took actor fed false a.flow b.flow
@@ -61,14 +61,14 @@ module _ {O : Type 0} (m : Ghosts O) where
       record { before = f; mid = was; shown = events; stepped = stepped-none m (known was) f events flow together; later = IsLater-refl was; last = later; feed = cause }
 
   -- nothing was done
-  pub moves-none : (actor : ℕ) (a : Stage O) → IsFlow m a.flow → Together a.flow.queues (known a.log) → Moves m actor a a
+  pub moves-none : (actor : ℕ) (a : Stage O) → IsFlow m a.flow → Together a.flow.queues (known a.log) → Proceeds m actor a a
   moves-none actor a flow together =
       record { stepped = stepped-none m (known a.log) a.flow a.events flow together; keeps = keeps-none a; touches = touches-none actor a.flow; cost = refl }
 
   pub step-waits : (actor : ℕ) (a : Stage O) → IsFlow m a.flow → Together a.flow.queues (known a.log) → (IsReady a.flow actor → ⊥) → StepOk m actor Waits a a
   step-waits actor a flow together waits = record { moves = moves-none actor a flow together; lowers = refl; took = tt; waits = (waits, refl) }
 
-  pub moves-both : (actor : ℕ) (a b c : Stage O) → Moves m actor a b → Moves m actor b c → Moves m actor a c
+  pub moves-both : (actor : ℕ) (a b c : Stage O) → Proceeds m actor a b → Proceeds m actor b c → Proceeds m actor a c
   moves-both actor a b c p q =
       record {
         stepped = stepped-both m _ _ _ _ _ _ p.stepped _ _ _ q.stepped;
@@ -77,7 +77,7 @@ module _ {O : Type 0} (m : Ghosts O) where
         cost = costs-after m _ _ _ _ _ _ p.stepped c.flow a.steps b.steps c.steps p.cost q.cost;
       }
 
-  pub err-after : (actor : ℕ) (a b c : Stage O) (e : RunErr) → Moves m actor a b → StepErr m b c e → StepErr m a c e
+  pub err-after : (actor : ℕ) (a b c : Stage O) (e : RunErr) → Proceeds m actor a b → StepErr m b c e → StepErr m a c e
   err-after actor a b c e p q =
       let tells = q.keeps.later.known in
       record {

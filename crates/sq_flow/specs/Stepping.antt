@@ -1,6 +1,6 @@
 -- What the calls that take steps promise, between two moments of a run.
 --     stage ..                 what stands at one moment
---     Moves m actor a b        calls of one actor that ended Ok lead from a to b
+--     Proceeds m actor a b     calls of one actor that ended Ok lead from a to b
 --     StepOk, TrainOk          one step, and a train of steps
 --     StepErr m a b e          a step, or a train, that failed with e
 use Rattle.std.specs.Prelude.{◌≡◌, ◌⊎◌, ℕ, ◌≤◌, true, false, List, slice_get}
@@ -33,28 +33,28 @@ abbrev pub stage : {O D : Type 0} → DiskGhosts D → Flow O → D → List Eve
 stage tells flow disk events steps = record { flow = flow; log = tells.log disk; faults = tells.faults disk; events = events; steps = steps }
 
 -- what any call keeps: the disk forgets nothing, no count of faults falls, and nothing that was shown is taken back
-pub record Keeps {O : Type 0} (before after : Stage O) : Type 0 where
+pub record Remains {O : Type 0} (before after : Stage O) : Type 0 where
   pub faults : before.faults ≤ after.faults
   pub later : IsLater before.log after.log
   pub stay : IsPrefixOf before.events after.events
 
 -- calls of one actor that ended Ok
-pub record Moves {O : Type 0} (m : Ghosts O) (actor : ℕ) (before after : Stage O) : Type 0 where
+pub record Proceeds {O : Type 0} (m : Ghosts O) (actor : ℕ) (before after : Stage O) : Type 0 where
   pub stepped : Stepped m (known before.log) (known after.log) before.flow after.flow before.events after.events
-  pub keeps : Keeps before after
+  pub keeps : Remains before after
   pub touches : TouchesOnly actor before.flow after.flow
   pub cost : CostsFed m before.flow after.flow before.steps after.steps
 
 -- a step that ended Ok: what it did lowers the measure, and takes what such a step takes. It waits only where the actor isn't ready
 pub record StepOk {O : Type 0} (m : Ghosts O) (actor : ℕ) (did : Did) (before after : Stage O) : Type 0 where
-  pub moves : Moves m actor before after
+  pub moves : Proceeds m actor before after
   pub lowers : Lowers did (measure_of before.flow) (measure_of after.flow)
   pub took : TookBy actor did before.flow after.flow
   pub waits : WaitsOnly did ((IsReady before.flow actor → ⊥) × (after.flow ≡ before.flow))
 
 -- a train of up to so many steps that ended Ok. It ends before only where the actor is finished or isn't ready
 pub record TrainOk {O : Type 0} (m : Ghosts O) (actor train : ℕ) (before after : Stage O) (p : Progress) : Type 0 where
-  pub moves : Moves m actor before after
+  pub moves : Proceeds m actor before after
   pub falls : FallsBy p.fed p.finished (measure_of before.flow) (measure_of after.flow)
   pub took : done_at before.flow.over (slice_get before.flow.seats.items actor) ≡ false → Took actor p.fed p.finished before.flow after.flow
   pub most : p.fed ≤ train
@@ -64,7 +64,7 @@ pub record TrainOk {O : Type 0} (m : Ghosts O) (actor train : ℕ) (before after
 -- a step, or a train, that failed: what was shown begins what was to be shown, by levels that were planned; the error has a cause that
 -- it shows, and no more work was done than there was
 pub record StepErr {O : Type 0} (m : Ghosts O) (before after : Stage O) (e : RunErr) : Type 0 where
-  pub keeps : Keeps before after
+  pub keeps : Remains before after
   pub closes : (table : ℕ → ℕ → ℕ) → AgreesWith after.flow.levels table → AgreesWith before.flow.levels table
   pub prefix : ShowsPrefix m (known before.log) (known after.log) before.flow after.flow.levels before.events after.events
   pub plans : PlansPrefix before.flow after.flow.levels before.events after.events

@@ -84,7 +84,7 @@ fn copy_at(fields: &[Value], place: u32) -> Result<Value, AllocError>
 
 /// Where the values of a key lie: one in the key itself, so that a look-up in a map reads no other memory for it.
 #[derive(Drop)]
-enum Lying {
+enum KeyValues {
     One(Value),
     Many(Group),
 }
@@ -92,7 +92,7 @@ enum Lying {
 /// A group in a map of groups. Contracts see its list of values.
 #[derive(Drop)]
 pub struct Key {
-    lying: Lying,
+    lying: KeyValues,
 }
 
 impl Model for Key {
@@ -112,7 +112,7 @@ impl Key {
         ensures { result ≡ group }
     {
         Key {
-            lying: Lying::Many(group),
+            lying: KeyValues::Many(group),
         }
     }
 
@@ -124,7 +124,7 @@ impl Key {
             [place] => {
                 let value = copy_at(t.fields.as_slice(), *place)?;
                 Ok(Key {
-                    lying: Lying::One(value),
+                    lying: KeyValues::One(value),
                 })
             }
             _ => {
@@ -140,8 +140,8 @@ impl Key {
         ensures { result.now ≡ self.now }
     {
         match &self.lying {
-            Lying::One(value) => std::slice::from_ref(value),
-            Lying::Many(group) => group.as_slice(),
+            KeyValues::One(value) => std::slice::from_ref(value),
+            KeyValues::Many(group) => group.as_slice(),
         }
     }
 

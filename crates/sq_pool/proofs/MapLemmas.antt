@@ -14,7 +14,7 @@ use Rattle.sq_link.proofs.ListLemmas.{eqb-other}
 use Rattle.sq_outside.specs.Disks.{Pages, DiskLog, Honest, put_at, after_get}
 use Rattle.sq_pool.specs.Trust.{known, Tells, pages_with, HasPage}
 use Rattle.sq_pool.specs.Slots.{without_page, digest_at}
-use Rattle.sq_pool.specs.Errors.{IsPut}
+use Rattle.sq_pool.specs.Errors.{IsLastPut}
 use Rattle.sq_pool.specs.Pools.{Pooled, bytes_in, is_held, page_of, if_none, if_kept, HasDigest, Agree, SameMap, Spills, HasFrameLeft, with_bytes, loaded, Fetches, Keeps, Makes, Drops, zeros, page_added, IsNumbered, LetsGo}
 use Rattle.sq_pool.proofs.PoolLemmas.{is-some}
 use Rattle.sq_pool.proofs.TrustLemmas.{if-tells, tells-with, tells-without, honest-tells, known-honest, known-pages, known-get, put-came}
@@ -167,7 +167,7 @@ came_back log p digest bytes h promised same = if-tells (known (after_get log p 
     subst (λ (o : Option Pages). HasPage o p bytes) (sym (before ∙ known-pages log tells)) (put.1 ∙ ap (λ (b : List ℕ). Some b) is))
 
 -- where the pages are known behind a get, what was put last has the kept digest
-pub put_before : (log : DiskLog) (p : ℕ) (digest bytes : List ℕ) → IfSome (known log) (λ n. HasDigest (finite.get n p) digest) → IsPut (after_get log p bytes) p digest
+pub put_before : (log : DiskLog) (p : ℕ) (digest bytes : List ℕ) → IfSome (known log) (λ n. HasDigest (finite.get n p) digest) → IsLastPut (after_get log p bytes) p digest
 put_before log p digest bytes h = λ t.
     subst (λ (o : Option Pages). IfSome o (λ n. HasDigest (finite.get n p) digest)) (known-pages log (subst Tells (known-get log p bytes t) t)) h
 

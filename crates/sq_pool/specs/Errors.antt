@@ -9,8 +9,8 @@ use Rattle.sq_pool.specs.Pools.{Pooled, HasDigest, bytes_in}
 use Rattle.sq_pool.specs.Trust.{CameLast, Tells, known}
 
 -- where the disk is known, the bytes that were put last under the number have this digest
-abbrev pub IsPut : DiskLog → ℕ → List ℕ → Type 0
-IsPut log page digest = Tells (known log) → HasDigest (put_at log page) digest
+abbrev pub IsLastPut : DiskLog → ℕ → List ℕ → Type 0
+IsLastPut log page digest = Tells (known log) → HasDigest (put_at log page) digest
 
 -- these bytes came back last, in this call, and are in the page's frame
 pub record IsBack (d : Pooled) (before now : DiskLog) (page : ℕ) (bytes : List ℕ) : Type 0 where
@@ -19,7 +19,7 @@ pub record IsBack (d : Pooled) (before now : DiskLog) (page : ℕ) (bytes : List
 
 -- they have the digest that was kept, which is that of the bytes last put
 abbrev pub IsWholePage : Pooled → Pooled → DiskLog → DiskLog → ℕ → List ℕ → Type 0
-IsWholePage c d before now page bytes = IsBack d before now page bytes × (digest_at c.kept page ≡ Some (sha256 bytes)) × IsPut now page (sha256 bytes)
+IsWholePage c d before now page bytes = IsBack d before now page bytes × (digest_at c.kept page ≡ Some (sha256 bytes)) × IsLastPut now page (sha256 bytes)
 
 -- a page that was in no frame came back whole
 abbrev pub ComesBack : Pooled → Pooled → DiskLog → DiskLog → ℕ → Type 0
@@ -30,5 +30,5 @@ ComesBack c d before now page = (bytes : List ℕ) × IsWholePage c d before now
 abbrev pub IsGarbling : Pooled → Pooled → DiskLog → DiskLog → ℕ → PoolErr → Type 0
 IsGarbling c d before now p error.Disk = ⊤
 IsGarbling c d before now p (error.Garbled page kept got) =
-    (page ≡ p) × (digest_at c.kept p ≡ Some kept.0) × ((bytes : List ℕ) × IsBack d before now p bytes × (sha256 bytes ≡ got.0)) × (¬ (kept.0 ≡ got.0)) × IsPut now p kept.0
+    (page ≡ p) × (digest_at c.kept p ≡ Some kept.0) × ((bytes : List ℕ) × IsBack d before now p bytes × (sha256 bytes ≡ got.0)) × (¬ (kept.0 ≡ got.0)) × IsLastPut now p kept.0
 IsGarbling c d before now p error.Memory = ⊤

@@ -1,7 +1,7 @@
 use Rattle.std.proofs.Common.{true, false, ◌≡◌, ℕ, List, Option, Some, refl, sym, ap, subst, ◌∙◌}
 use Rattle.sha2.specs.Sha256.{sha256}
 use Rattle.sq_outside.specs.Disks.{DiskLog}
-use Rattle.sq_pool.specs.Errors.{IsPut}
+use Rattle.sq_pool.specs.Errors.{IsLastPut}
 use Rattle.sq_pool.specs.Trust.{known, IsLater}
 use Rattle.sq_pool.specs.Pools.{Pooled, bytes_in, with_bytes}
 use Rattle.sq_pool.proofs.PoolLemmas.{is-some}
@@ -61,7 +61,7 @@ returns-then-not-are_same-clause-garbled g c =
         ap sha256 (sym read) ∙ sym c.digest_of-got.ensures,
       ),
       λ same. true_false (sym (c.are_same.ensures.1 same) ∙ c.if-not-are_same.true),
-      subst (λ (log : DiskLog). IsPut log c.args.page c.args.kept.0) (sym c.in-Ok.ensures.ok)
+      subst (λ (log : DiskLog). IsLastPut log c.args.page c.args.kept.0) (sym c.in-Ok.ensures.ok)
           (put_before (g.D.PageDisk.log c.make_room.new.disk) c.args.page c.args.kept.0 c.get.new.into
           (room-told _ _ _ _ c.args.page c.args.kept.0 c.in_ok-make_room.ensures.ok c.requires.agree c.requires.out c.requires.kept)),
     )
@@ -81,7 +81,7 @@ returns-clause-came g c =
       (
         record { there = there; came = came-got _ _ _ c.args.page c.get.new.into c.make_room.ensures.later c.in-Ok.ensures.ok },
         c.requires.kept ∙ ap (λ (d : List ℕ). Some d) (sym same),
-        subst (λ (log : DiskLog). IsPut log c.args.page (sha256 c.get.new.into)) (sym c.in-Ok.ensures.ok)
+        subst (λ (log : DiskLog). IsLastPut log c.args.page (sha256 c.get.new.into)) (sym c.in-Ok.ensures.ok)
             (put_before (g.D.PageDisk.log c.make_room.new.disk) c.args.page (sha256 c.get.new.into) c.get.new.into
             (room-told _ _ _ _ c.args.page (sha256 c.get.new.into) c.in_ok-make_room.ensures.ok c.requires.agree c.requires.out (c.requires.kept ∙ ap (λ (d : List ℕ). Some d) (sym same)))),
       ),
