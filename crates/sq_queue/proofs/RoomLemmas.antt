@@ -11,7 +11,7 @@ use Rattle.sq_item.specs.declared.Item.{Item}
 use Rattle.sq_item.specs.SoundItems.{IsBody}
 use Rattle.sq_item.specs.Words.{values_of}
 use Rattle.sq_page.specs.Pages.{value_bytes, values_bytes, item_bytes, items_bytes, until_bytes, body_bytes}
-use Rattle.sq_queue.specs.Faces.{value_room, room_of, rooms_of, bytes_of}
+use Rattle.sq_queue.specs.Faces.{value_room, room_of, rooms_of, bytes_taken}
 
 value-within : (v : Value) → length (value_bytes v) ≤ value_room v
 value-within value.Null = omega arith
@@ -36,7 +36,7 @@ item-within : (item : Item) → length (item_bytes item) ≤ room_of item
 unfolding item_bytes
 item-within item = omega (arith, until-within item.mark, body-within item.body, length-append (until_bytes item.mark) (body_bytes item.body))
 
-pub bytes-within : (items : List Item) → bytes_of items ≤ rooms_of items
+pub bytes-within : (items : List Item) → bytes_taken items ≤ rooms_of items
 bytes-within [] = omega arith
 bytes-within (item ∷ items) = omega (arith, item-within item, bytes-within items, sum_by-cons room_of item items, length-append (item_bytes item) (items_bytes items))
 

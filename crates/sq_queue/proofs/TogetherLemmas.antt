@@ -12,7 +12,7 @@ use Rattle.sq_item.specs.SoundItems.{IsSoundItem}
 use Rattle.sq_outside.specs.Disks.{Pages}
 use Rattle.sq_paged.specs.Fronts.{Face}
 use Rattle.sq_paged.specs.Faces as pages
-use Rattle.sq_queue.specs.Faces.{bytes_of, rooms_of, front_at, size, items_on, no_face, IsEmpty, IsLane, Together, IsBounded}
+use Rattle.sq_queue.specs.Faces.{bytes_taken, rooms_of, front_at, size, items_on, no_face, IsEmpty, IsLane, Together, IsBounded}
 use Rattle.sq_queue.specs.declared.Lane.{Lane}
 use Rattle.sq_queue.specs.declared.Queues.{Queues}
 use Rattle.sq_paged.specs.declared.Queues.{Queues as Paged}
@@ -91,10 +91,10 @@ taken-items q told r now arc lane new item inside was lanes own =
 pub bounded : (q : Queues) (told : Option Pages) → Together q told → IsBounded q
 bounded q told g =
     let lanes = q.lanes.items in
-    let each : (arc : ℕ) → bytes_of (front_at (slice_get lanes arc)) ≤ 8192 = λ arc. omega (arith, bytes-within (front_at (slice_get lanes arc)), (g.lanes arc).held, (g.lanes arc).page) in
+    let each : (arc : ℕ) → bytes_taken (front_at (slice_get lanes arc)) ≤ 8192 = λ arc. omega (arith, bytes-within (front_at (slice_get lanes arc)), (g.lanes arc).held, (g.lanes arc).page) in
     record {
       each = each;
-      all = omega (arith, sum_by-le (λ (lane : Lane). bytes_of lane.front.items) 8192 lanes (λ arc lane inside. subst (λ (o : Option Lane). bytes_of (front_at o) ≤ 8192) (slice_get-get_or lanes arc lane inside) (each arc)));
+      all = omega (arith, sum_by-le (λ (lane : Lane). bytes_taken lane.front.items) 8192 lanes (λ arc lane inside. subst (λ (o : Option Lane). bytes_taken (front_at o) ≤ 8192) (slice_get-get_or lanes arc lane inside) (each arc)));
     }
 
 -- where nothing of an arc is said to be in pages, nothing is
