@@ -1,10 +1,10 @@
 //! Queues of items that are all in pages, one queue for each arc.
 //!
-//! The contract has two parts. Over every disk the queues know each arc's face: how many items stand there, the time of the
-//! first, and whether the arc has ended. Where the pages of the disk are known, queues and disk together stand for one list of
-//! items for each arc: `push` and `send` append to one list, `pop` takes its first, and all others stay. They are known where
-//! the disk is honest, and where no page came back changed with the digest of what was put. At most `frames` pages are in
-//! memory, a page of which no item is left leaves the pool, and a page that comes back from the disk is tested before an item
+//! The contract is the trait `ArcQueues`, in two parts. Over every disk the queues know each arc's face: how many items stand
+//! there, the time of the first, and whether the arc has ended. Where the pages of the disk are known, queues and disk together
+//! stand for one list of items for each arc: `push` and `send` append to one list, `pop` takes its first, and all others stay.
+//! They are known where the disk is honest, and where no page came back changed with the digest of what was put. At most `frames`
+//! pages are in memory, a page of which no item is left leaves the pool, and a page that comes back from the disk is tested before an item
 //! of it is handed on. Below stand items, pages, linked lists, the pool and the disk.
 #![tactic(auto)]
 
@@ -12,7 +12,7 @@ ghost use Rattle.std.specs.Prelude.{◌≡◌, ◌≢◌, ℕ, ◌+◌, ◌-◌,
 ghost use Rattle.sq_item.specs.SoundItems.{IsSoundItem};
 ghost use Rattle.sq_outside.specs.Disks.{Honest, Pages};
 ghost use Rattle.sq_outside.specs.Faults.{Rose};
-ghost use Rattle.sq_paged.specs.Fronts.{head_by, pushed, IsPopped};
+ghost use Rattle.sq_paged.specs.Fronts.{head_by};
 ghost use Rattle.sq_pool.specs.Trust.{IsLater, Tells, known};
 ghost use Rattle.sq_paged.specs.KeptPages.{IsTold, IsCause, NoMisfit, IsFirstOf};
 ghost use Rattle.sq_paged.specs.Faces.{paged_face, paged_size, paged_frames, paged_frames as frames_of, paged_resident_of, paged_items_on, PagedTogether, no_items, last_if, IsKeptPage, kept_at, IsPagedRefusal, SameTables, IsFirstPaged};
