@@ -6,7 +6,7 @@ use Rattle.sq_oper.specs.declared.outs.Decision.{Decision}
 use Rattle.sq_oper.specs.Entries.{Entry}
 use Rattle.sq_left.specs.Remainder.{Net, Holding, coming, left, is_known_actor, Facts}
 use Rattle.sq_left.proofs.Conserve.{Kept, ended-none}
-use Rattle.sq_left.proofs.ActorSteps.{Proceeds, left-moved}
+use Rattle.sq_left.proofs.ActorSteps.{Moves, left-moved}
 use Rattle.sq_flow.specs.declared.wires.Wires.{Wires}
 use Rattle.sq_flow.specs.Wiring.{net_of, IsShaped}
 use Rattle.sq_flow.specs.Flows.{IsEndOf}
@@ -38,7 +38,7 @@ module _ (wires : Wires) (ops : ℕ) (shaped : IsShaped wires ops) where
 
   -- where a step takes things from the fronts of arcs, what is left of each is an end of what was left
   pub arcs-left : (w w' : Holding) (taken : ℕ → List Thing) (pushed : ℕ → ℕ → List Thing) (decided : ℕ → List Decision) (took : ℕ → List Entry)
-      → Facts net w wires.order.items → Kept net w w' pushed decided took wires.order.items → Proceeds net w w' taken pushed
+      → Facts net w wires.order.items → Kept net w w' pushed decided took wires.order.items → Moves net w w' taken pushed
       → (arc : ℕ) → arc < length wires.arcs.items → IsEndOf (left net w' wires.order.items arc) (left net w wires.order.items arc)
   arcs-left w w' taken pushed decided took facts kept moves arc low =
       let there = giver-known arc low in (

@@ -22,7 +22,7 @@ use Rattle.sq_left.specs.Remainder.{Net, Holding, coming, inputs, is_known_actor
 use Rattle.sq_left.specs.Heads.{AllFine}
 use Rattle.sq_left.proofs.MergeLemmas.{AllOfTime, eqb-not}
 use Rattle.sq_left.proofs.Conserve.{Kept}
-use Rattle.sq_left.proofs.ActorSteps.{EachPort, PortFacts, taken_at, Proceeds, FedActor, SameActor}
+use Rattle.sq_left.proofs.ActorSteps.{EachPort, PortFacts, taken_at, Moves, FedActor, SameActor}
 use Rattle.sq_left.proofs.WorldSteps.{facts-at, next-is-future, next-is-first, spread-of-time, world-fed, replay-end}
 use Rattle.sq_queue.specs.declared.Queues.{Queues}
 use Rattle.sq_outside.specs.Disks.{Pages}
@@ -254,7 +254,7 @@ module _ {O : Type 0} (m : Ghosts O) (e : Flow O) (flow : IsFlow m e) (actor tic
     abbrev between : Holding
     between = record was { queue = λ k. spread_all (mid k) }
 
-    moves-between : Proceeds net was between (taken_at at (spread item)) (λ _ _. [])
+    moves-between : Moves net was between (taken_at at (spread item)) (λ _ _. [])
     moves-between k within = moves-fed items mid (λ _. []) (λ j. spread_all (mid j)) at item whole others k (sym (append-nil (spread_all (mid k))))
 
     pub next-may-come : IsFuture (net.takes actor) (net.fits actor) (moment_at m (slice_get e.seats.items actor)) (entries p item)
@@ -356,7 +356,7 @@ module _ {O : Type 0} (m : Ghosts O) (e : Flow O) (flow : IsFlow m e) (actor tic
       done-after =
           ap (done_at e.over) is_after ∙ ap not fed.open_still ∙ sym (ap (done_at e.over) is_seat) ∙ unfinished
 
-      moves-all : Proceeds net was is (taken_at at (spread item)) (pushed_by actor outs)
+      moves-all : Moves net was is (taken_at at (spread item)) (pushed_by actor outs)
       moves-all k within =
           moves-fed items mid (λ j. pushed_by actor outs (net.from j) (net.port j)) (λ j. spread_all (items' j)) at item whole others k (given_on k within)
 

@@ -16,8 +16,8 @@ only-one [] some few = absurd (omega (arith, some))
 only-one (x ∷ []) some few = refl
 only-one (x ∷ y ∷ xs) some few = absurd (omega (arith, few))
 
-pub has_room-requires : goal.has_room-requires
-has_room-requires g c =
+pub has_room-requires-clause-there : goal.has_room-requires-clause-there
+has_room-requires-clause-there g c =
     let only = only-one c.arcs_at.result.now c.in-len1.len_at_least c.in-len1.len_below in
     (c.requires.there 0 _ (ap (λ l. slice_get l 0) (sym c.arcs_at.ensures ∙ only))).0
 
