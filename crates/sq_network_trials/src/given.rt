@@ -75,7 +75,8 @@ fn ticks(alloc: Global, schema: &Schema) -> Result<Vec<Tuple>, Fail>
 {
     let _names = schema.names();
     texts_are_streams();
-    Ok(read_stream(alloc, TICKS.as_bytes(), schema)?)
+    let tuples = read_stream(alloc, TICKS.as_bytes(), schema)?;
+    Ok(tuples)
 }
 
 /// The sixteen tuples as what the one source of a network recorded.
