@@ -1,5 +1,5 @@
 // A network of two Aggregates, a query that counts, and sixteen tuples.
-ghost use Rattle.std.specs.Prelude.{◌≡◌, [], ◌∷◌, IfOk, length, map};
+ghost use Rattle.std.specs.Prelude.{◌≡◌, ◌+◌, ◌<◌, ◌^◌, [], ◌∷◌, IfOk, length, map};
 ghost use Rattle.std.specs.List.{All};
 ghost use Rattle.sq_value.specs.Values.{IsStream};
 ghost use Rattle.sq_net.specs.SoundNetworks.{IsSound};
@@ -68,14 +68,16 @@ pub fn network(alloc: Global, text: &str) -> Result<Network, Fail>
     Ok(read_network(alloc, text.as_bytes())?)
 }
 
-/// The sixteen tuples.
-fn ticks(alloc: Global, schema: &Schema) -> Result<Vec<Tuple>, Fail>
+/// The tuples of a text.
+fn tuples_in(alloc: Global, bytes: &[u8], schema: &Schema) -> Result<Vec<Tuple>, Fail>
+    requires { length bytes.now + 1 < 2 ^ 32 }
     ensures stream { IfOk result (λ xs. IsStream xs.items) }
     ensures few { IfOk result (λ xs. AreFew (xs.items ∷ [])) }
 {
     let _names = schema.names();
     texts_are_streams();
-    Ok(read_stream(alloc, TICKS.as_bytes(), schema)?)
+    let tuples = read_stream(alloc, bytes, schema)?;
+    Ok(tuples)
 }
 
 /// The sixteen tuples as what the one source of a network recorded.
@@ -86,7 +88,7 @@ pub fn recorded(alloc: Global, n: &Network) -> Result<Vec<Vec<Tuple>>, Fail>
 {
     match n.sources.as_slice() {
         [source] => {
-            let tuples = ticks(alloc, &source.schema)?;
+            let tuples = tuples_in(alloc, TICKS.as_bytes(), &source.schema)?;
             Ok(vec![in alloc; tuples]?)
         }
         _ => Err(Fail::from("not one source")),
