@@ -174,8 +174,7 @@ fn are_numbered(n: &Network) -> bool
     ensures { IsTrue result ↔ (length (stream_names n.now) < 2 ^ 32) }
 {
     let sources = n.sources.as_slice().len();
-    sources <= u32::MAX as usize
-        && all_ports_fit(n.boxes.as_slice(), u32::MAX - sources as u32)
+    sources <= u32::MAX as usize && all_ports_fit(n.boxes.as_slice(), u32::MAX - sources as u32)
 }
 
 #[tactic(auto, using(crate::proofs::Naming::names_count))]

@@ -1,6 +1,10 @@
 use Rattle.std.proofs.Common.{◌∙◌, sym}
-use Rattle.sq_work.proofs.JoinLemmas.{joined_tapped, refused_tapped}
+use Rattle.sq_work.proofs.JoinLemmas.{joined_tapped, no_stream, refused_tapped}
 use Rattle.sq_work.proofs.tapping.join.Goals as goal
+
+pub returns-in_default-clause-refused : goal.returns-in_default-clause-refused
+returns-in_default-clause-refused c =
+    no_stream c.args.network c.args.stream.now c.args.from c.args.query (sym c.in_default.is ∙ c.stream_named.ensures.sound c.requires.sound)
 
 pub returns-in-Ok-clause-tapped : goal.returns-in-Ok-clause-tapped
 returns-in-Ok-clause-tapped c =
