@@ -1,9 +1,12 @@
 -- Names of ports and of streams.
-use Rattle.std.proofs.Common.{◌≡◌, ◌∙◌, ap, sym, refl, ℕ, zero, suc, ◌+◌, ◌-◌, ◌<◌, ◌≤◌, ◌^◌, Bool, true, false, cond, ◌&&◌, ◌==◌, List, [], ◌∷◌, ◌++◌, map, length, drop, get_or, Option, Some, None, slice_get, arith}
+use Rattle.std.proofs.Common.{◌≡◌, ◌≢◌, ◌∙◌, ◌/◌, ◌%◌, ap, sym, refl, ℕ, zero, suc, ◌+◌, ◌-◌, ◌<◌, ◌≤◌, ◌^◌, Bool, true, false, cond, ◌&&◌, ◌==◌, List, [], ◌∷◌, ◌++◌, map, length, drop, get_or, Option, Some, None, slice_get, arith}
 use Rattle.std.specs.Prelude.{IfSome}
-use Rattle.std.proofs.lemmas.List.Elements.{All-from_recursion}
+use Rattle.std.specs.Fmt.{decimal}
+use Rattle.std.proofs.lemmas.Fmt.{decimal_digit, decimal_nonempty, decimal_step}
+use Rattle.std.proofs.lemmas.Bool.{false_from_ne_true, ltb-false, ltb-true}
+use Rattle.std.proofs.Math.Dec.{ltb}
 use Rattle.sq_expr.specs.Trees.{Checked}
-use Rattle.std.specs.List.{All, AllByRecursion, flat_map, position_from, sum_by}
+use Rattle.std.specs.List.{AllByRecursion, flat_map, position_from, sum_by}
 use Rattle.std.proofs.lemmas.List.{length-append, length-map, take_all, drop_more}
 use Rattle.std.proofs.lemmas.List.Sums.{sum_by-cons}
 use Rattle.std.proofs.lemmas.List.FromFn.{length-map-range_with_len}
@@ -19,13 +22,68 @@ use Rattle.sq_net.specs.declared.Source as declared
 use Rattle.sq_net.specs.declared.Node.{Node}
 use Rattle.sq_net.specs.declared.Body.{Body}
 use Rattle.sq_net.specs.declared.Body.TheVariants.{Filter, Map, Union, BSort, Aggregate, Join, Resample}
-use Rattle.sq_net.specs.SoundNetworks.{IsSound, IsTypedBody, input_columns, body_within, node_within}
-use Rattle.sq_points.proofs.Bounds.{at_most, nodes_within, few_streams}
+use Rattle.sq_net.specs.SoundNetworks.{IsSound, IsTypedBody, input_columns}
+use Rattle.sq_points.proofs.Bounds.{few_streams}
 use Rattle.sq_tap.specs.Names.{is_dotted, port_names, ports_named, stream_names, stream_named}
 use Rattle.sq_net.specs.Names.{port_name}
 use Rattle.sq_words.proofs.Bools.{and_true}
 use Rattle.sq_words.proofs.Numbers.{eq_itself, eq_from}
-use Rattle.sq_words.proofs.Lists.{list_all_at, same_bytes_true, same_bytes_itself}
+use Rattle.sq_words.proofs.Lists.{same_bytes_true, same_bytes_itself}
+
+-- ---- digits
+
+last_same : (a b : List ℕ) (x y : ℕ) → a ++ (x ∷ []) ≡ b ++ (y ∷ []) → (a ≡ b) × (x ≡ y)
+last_same [] [] x y e = (refl, cc)
+last_same [] (d ∷ []) x y e = absurd (cc e)
+last_same [] (d ∷ e ∷ b) x y h = absurd (cc h)
+last_same (c ∷ []) [] x y e = absurd (cc e)
+last_same (c ∷ d ∷ a) [] x y e = absurd (cc e)
+last_same (c ∷ a) (d ∷ b) x y e =
+    let front : c ≡ d = cc in
+    let behind : a ++ (x ∷ []) ≡ b ++ (y ∷ []) = cc in
+    let more = last_same a b x y behind in
+    (ap (λ k. k ∷ a) front ∙ ap (λ ks. d ∷ ks) more.0, more.1)
+
+pub one_digit : (n : ℕ) → n < 10 → decimal n ≡ (48 + n % 10) ∷ []
+one_digit n low = (let same : n ≡ n % 10 = omega (arith, low) in decimal_digit n low ∙ ap (λ k. (48 + k) ∷ []) same)
+
+last_digit : (n : ℕ) → n < 2 ^ 32 → (ds : List ℕ) × (decimal n ≡ ds ++ ((48 + n % 10) ∷ []))
+last_digit n small = by (ltb n 10) refl
+  where
+    by : (b : Bool) → ltb n 10 ≡ b → (ds : List ℕ) × (decimal n ≡ ds ++ ((48 + n % 10) ∷ []))
+    by true e = ([], one_digit n (ltb-true n 10 e))
+    by false e = (decimal (n / 10), decimal_step n (ltb-false n 10 e) (omega (arith, small)))
+
+pub no_digits : (n : ℕ) (text : List ℕ) → n < 2 ^ 32 → length text ≡ 0 → false ≡ same_bytes text (decimal n)
+no_digits n text small none =
+    sym (false_from_ne_true (same_bytes text (decimal n)) (λ e.
+    let same = ap (λ (ts : List ℕ). length ts) (same_bytes_true text (decimal n) e) in
+    let some = decimal_nonempty n (omega (arith, small)) in
+    omega (arith, none, same, some)))
+
+pub other_digit : (n : ℕ) (text front : List ℕ) (x : ℕ) → n < 2 ^ 32 → text ≡ front ++ (x ∷ []) → x ≢ 48 + n % 10 → false ≡ same_bytes text (decimal n)
+other_digit n text front x small is other =
+    let written = last_digit n small in
+    sym (false_from_ne_true (same_bytes text (decimal n)) (λ e. other (last_same front written.0 x (48 + n % 10) (sym is ∙ same_bytes_true text (decimal n) e ∙ written.1)).1))
+
+pub same_digit : (n : ℕ) (text front ds : List ℕ) (x : ℕ) → decimal n ≡ ds ++ ((48 + n % 10) ∷ []) → text ≡ front ++ (x ∷ []) → x ≡ 48 + n % 10 → same_bytes front ds ≡ same_bytes text (decimal n)
+same_digit n text front ds x written is same = by (same_bytes front ds) (same_bytes text (decimal n)) refl refl
+  where
+    whole : front ≡ ds → text ≡ decimal n
+    whole e = is ∙ ap (λ k. front ++ (k ∷ [])) same ∙ ap (λ (ks : List ℕ). ks ++ ((48 + n % 10) ∷ [])) e ∙ sym written
+
+    by : (a b : Bool) → same_bytes front ds ≡ a → same_bytes text (decimal n) ≡ b → a ≡ b
+    by true true e f = refl
+    by false false e f = refl
+    by true false e f =
+        let no : true ≡ false = sym (same_bytes_itself text) ∙ ap (same_bytes text) (whole (same_bytes_true front ds e)) ∙ f in cc
+    by false true e f =
+        let parts = last_same front ds x (48 + n % 10) (sym is ∙ same_bytes_true text (decimal n) f ∙ written) in
+        let no : false ≡ true = sym e ∙ ap (λ (t : List ℕ). same_bytes t ds) parts.0 ∙ same_bytes_itself ds in cc
+
+pub nothing_left : (text : List ℕ) (r : Bool) → r ≡ (length text == 0) → r ≡ same_bytes text []
+nothing_left [] r e = e ∙ eq_itself 0
+nothing_left (b ∷ text) r e = false_from_ne_true r (λ yes. let none = eq_from (length (b ∷ text)) 0 (sym e ∙ yes) in omega (arith, none))
 
 -- ---- dotted names
 
@@ -99,26 +157,9 @@ names_of_ports ins name (Aggregate funcs group window) ports typed = sym (ap (λ
 names_of_ports ins name (Join size on) ports typed = sym (ap (λ (cs : List Columns). length cs) typed.1)
 names_of_ports ins name (Resample size funcs) ports typed = sym (ap (λ (cs : List Columns). length cs) typed.1)
 
-few_ports : (name : List ℕ) (b : Body) → body_within b ≡ true → length (port_names name b) ≤ 16
-few_ports name (Filter preds) h =
-    let few = at_most 1 15 (length preds) h in
-    let many = length-map-range_with_len (λ i. port_name name (i + 1)) 0 (length preds + 1) in
-    omega (arith, few, many)
-few_ports name (Map exprs) h = omega arith
-few_ports name Union h = omega arith
-few_ports name (BSort by slack) h = omega arith
-few_ports name (Aggregate funcs group window) h = omega arith
-few_ports name (Join size on) h = omega arith
-few_ports name (Resample size funcs) h = omega arith
-
 each_from : (P : Node → Type 0) (xs : List Node) → ((i : ℕ) (x : Node) → slice_get xs i ≡ Some x → P x) → AllByRecursion P xs
 each_from P [] h = tt
 each_from P (x ∷ xs) h = (h zero x refl, each_from P xs (λ i y there. h (suc i) y there))
-
-pub ports_few : (n : Network) → IsSound n → AllByRecursion (λ (b : Node). length (port_names b.name b.body) ≤ 16) n.boxes
-ports_few n sound =
-    each_from (λ (b : Node). length (port_names b.name b.body) ≤ 16) n.boxes
-    (λ i b there. few_ports b.name b.body (and_true _ _ (and_true _ _ (list_all_at node_within n.boxes i b (nodes_within n sound.within) there)).0).0)
 
 count_names : (ws : List BoxWires) (ds : List Node) → map (λ b. b.ports) ws ≡ map (λ b. length b.schemas) ds → AllByRecursion (λ (b : Node). length (port_names b.name b.body) ≡ length b.schemas) ds
     → length (flat_map (λ (b : Node). port_names b.name b.body) ds) ≡ sum_by (λ b. b.ports) ws
@@ -144,8 +185,19 @@ boxes_named n sound =
     let sources = sound.agrees.sources in
     omega (arith, count, all, names, sources)
 
-pub names_few : (n : Network) → IsSound n → length n.sources + length (flat_map (λ (b : Node). port_names b.name b.body) n.boxes) < 2 ^ 32
-names_few n sound = (let few = few_streams n sound in let same = boxes_named n sound in omega (arith, few, same))
+pub names_count : (n : Network) → length (stream_names n) ≡ length n.sources + length (flat_map (λ (b : Node). port_names b.name b.body) n.boxes)
+names_count n =
+    let long = length-append (map (λ (x : declared.Source). x.name) n.sources) (flat_map (λ (b : Node). port_names b.name b.body) n.boxes) in
+    let first = length-map n.sources (λ (x : declared.Source). x.name) in
+    omega (arith, long, first)
+
+-- a sound network has few streams
+pub names_few : (n : Network) → IsSound n → length (stream_names n) < 2 ^ 32
+names_few n sound =
+    let few = few_streams n sound in
+    let same = boxes_named n sound in
+    let count = names_count n in
+    omega (arith, few, same, count)
 
 there_low : (ps : List Producer) (i : ℕ) → i < length ps → is_there (slice_get ps i) ≡ true
 there_low [] i low = absurd (omega arith)
@@ -155,16 +207,12 @@ there_low (p ∷ ps) (suc i) low = there_low ps i (omega arith)
 pub named_there : (n : Network) (name : List ℕ) (s : ℕ) → IsSound n → stream_named n name ≡ Some s → is_there (producer_of n.wires s) ≡ true
 named_there n name s sound named =
     let low = place_low (same_bytes name) 0 (stream_names n) s named in
-    let long = length-append (map (λ (x : declared.Source). x.name) n.sources) (flat_map (λ (b : Node). port_names b.name b.body) n.boxes) in
-    let first = length-map n.sources (λ (x : declared.Source). x.name) in
+    let count = names_count n in
     let same = boxes_named n sound in
-    there_low (producers_of n.wires) s (omega (arith, low, long, first, same))
+    there_low (producers_of n.wires) s (omega (arith, low, count, same))
 
 pub length_more : {X Y : Type 0} (f : X → List Y) (x : X) (xs : List X) → length (flat_map f (x ∷ xs)) ≡ length (f x) + length (flat_map f xs)
 length_more f x xs = length-append (f x) (flat_map f xs)
-
-pub all_ports_few : (n : Network) → IsSound n → All (λ (b : Node). length (port_names b.name b.body) ≤ 16) n.boxes
-all_ports_few n sound = All-from_recursion (λ (b : Node). length (port_names b.name b.body) ≤ 16) n.boxes (ports_few n sound)
 
 pub filter_ports : (name : List ℕ) (b : Body) (preds : List Checked) → b ≡ Filter preds → length (port_names name b) ≡ length preds + 1
 filter_ports name b preds is =

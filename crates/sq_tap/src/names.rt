@@ -1,54 +1,45 @@
 // The stream of a name.
-ghost use Rattle.std.specs.Prelude.{◌≡◌, ◌+◌, ◌<◌, ◌≤◌, ◌^◌, ℕ, length, map, true, IfSome, Some, None, if◌then◌else◌};
+ghost use Rattle.std.specs.Prelude.{◌≡◌, ◌+◌, ◌<◌, ◌≤◌, ◌^◌, ◌↔◌, ℕ, length, map, true, IfSome, IsTrue, Some, None, if◌then◌else◌};
 ghost use Rattle.std.specs.Fmt.{decimal};
-ghost use Rattle.std.specs.List.{flat_map, position_from, All};
+ghost use Rattle.std.specs.List.{flat_map, position_from};
 ghost use Rattle.sq_words.specs.Lists.{same_bytes};
 ghost use Rattle.sq_graph.specs.Order.{is_there};
 ghost use Rattle.sq_graph.specs.Wires.{producer_of};
 ghost use Rattle.sq_net.specs.SoundNetworks.{IsSound};
-ghost use Rattle.sq_tap.specs.Names.{is_dotted, port_names, ports_named, stream_named};
+ghost use Rattle.sq_tap.specs.Names.{is_dotted, port_names, ports_named, stream_named, stream_names};
 ghost use Rattle.sq_net.specs.Names.{port_name};
 
 use sq_net::{Body, Network, Node, Source};
-use sq_value::{same_bytes, same_text};
+use sq_value::same_text;
 
-// The digits of the number of a port: a Filter has at most 16.
-fn port_digits(number: u32) -> &'static str
-    requires { (1 ≤ number) × (number ≤ 16) }
-    ensures { result.now ≡ decimal number }
+// Whether a text is this number in digits.
+fn is_decimal(text: &[u8], number: u32) -> bool
+    ensures { result ≡ same_bytes text.now (decimal number) }
 {
-    match number {
-        1 => "1",
-        2 => "2",
-        3 => "3",
-        4 => "4",
-        5 => "5",
-        6 => "6",
-        7 => "7",
-        8 => "8",
-        9 => "9",
-        10 => "10",
-        11 => "11",
-        12 => "12",
-        13 => "13",
-        14 => "14",
-        15 => "15",
-        16 => "16",
-        _ => unreachable!(),
+    let Some((last, front)) = text.split_last() else {
+        return false;
+    };
+    if *last != 48 + (number % 10) as u8 {
+        return false;
     }
+    if number < 10 {
+        return front.is_empty();
+    }
+    is_decimal(front, number / 10)
 }
 
-fn is_dotted(text: &[u8], name: &[u8], digits: &[u8]) -> bool
-    ensures { result ≡ is_dotted text.now name.now digits.now }
+// Whether a text is a name, a dot and this number.
+fn is_dotted(text: &[u8], name: &[u8], number: u32) -> bool
+    ensures { result ≡ is_dotted text.now name.now (decimal number) }
 {
     match name {
         [] => match text {
             [] => false,
-            [b, rest @ ..] => *b == 46 && same_bytes(rest, digits),
+            [b, rest @ ..] => *b == 46 && is_decimal(rest, number),
         },
         [c, more @ ..] => match text {
             [] => false,
-            [b, rest @ ..] => *b == *c && is_dotted(rest, more, digits),
+            [b, rest @ ..] => *b == *c && is_dotted(rest, more, number),
         },
     }
 }
@@ -56,20 +47,15 @@ fn is_dotted(text: &[u8], name: &[u8], digits: &[u8]) -> bool
 // Whether a text is the name of this port.
 #[tactic(auto, using(crate::proofs::Naming::dotted_is))]
 fn is_port(text: &str, name: &str, number: u32) -> bool
-    requires { (1 ≤ number) × (number ≤ 16) }
     ensures { result ≡ same_bytes text.now (port_name name.now number) }
 {
-    is_dotted(
-        text.as_bytes(),
-        name.as_bytes(),
-        port_digits(number).as_bytes(),
-    )
+    is_dotted(text.as_bytes(), name.as_bytes(), number)
 }
 
 // The first of the ports of a Filter from one on.
 #[tactic(auto, using(crate::proofs::Naming::ports_more))]
 fn filter_port(text: &str, name: &str, number: u32, port: u32, many: u32) -> Option<u32>
-    requires ports { port + many ≤ 16 }
+    requires ports { port + many < 2 ^ 32 }
     requires few { number + many < 2 ^ 32 }
     ensures { result ≡ position_from (same_bytes text.now) number (ports_named name.now port many) }
 {
@@ -92,8 +78,7 @@ fn one_port(text: &str, name: &str, number: u32) -> Option<u32>
 }
 
 fn port_named(text: &str, b: &Node, number: u32) -> Option<u32>
-    requires ports { length (port_names b.now.name b.now.body) ≤ 16 }
-    requires few { number + length (port_names b.now.name b.now.body) < 2 ^ 32 }
+    requires { number + length (port_names b.now.name b.now.body) < 2 ^ 32 }
     ensures { result ≡ position_from (same_bytes text.now) number (port_names b.now.name b.now.body) }
 {
     let name = b.name.as_str();
@@ -111,7 +96,7 @@ fn port_named(text: &str, b: &Node, number: u32) -> Option<u32>
 }
 
 fn ports_in(b: &Node) -> u32
-    requires { length (port_names b.now.name b.now.body) ≤ 16 }
+    requires { length (port_names b.now.name b.now.body) < 2 ^ 32 }
     ensures { result ≡ length (port_names b.now.name b.now.body) }
 {
     match &b.body {
@@ -126,8 +111,7 @@ fn ports_in(b: &Node) -> u32
 }
 
 fn box_named(text: &str, boxes: &[Node], first: u32) -> Option<u32>
-    requires ports { All (λ b. length (port_names b.name b.body) ≤ 16) boxes.now }
-    requires few { first + length (flat_map (λ b. port_names b.name b.body) boxes.now) < 2 ^ 32 }
+    requires { first + length (flat_map (λ b. port_names b.name b.body) boxes.now) < 2 ^ 32 }
     ensures { result ≡ position_from (same_bytes text.now) first (flat_map (λ b. port_names b.name b.body) boxes.now) }
 {
     let mut number = first;
@@ -155,17 +139,68 @@ fn source_named(text: &str, sources: &[Source], number: u32) -> Option<u32>
     }
 }
 
-/// The number of the first stream of a name: a source's, or a port's of a box. A port of a Filter is named by the box's
-/// name, a dot and its number from 1; the one port of another box by the box's name.
-#[tactic(auto, using(crate::proofs::Naming::all_ports_few, crate::proofs::Naming::names_few))]
-pub fn stream_named(n: &Network, name: &str) -> Option<u32>
-    requires sound { IsSound n.now }
-    ensures named { result ≡ stream_named n.now name.now }
-    ensures there { IfSome result (λ s. is_there (producer_of n.now.wires s) ≡ true) }
+// Whether a box has no more ports than this.
+fn ports_fit(b: &Node, room: u32) -> bool
+    ensures { IsTrue result ↔ (length (port_names b.now.name b.now.body) ≤ room) }
+{
+    match &b.body {
+        Body::Filter { preds } => preds.as_slice().len() < room as usize,
+        Body::Map { .. }
+        | Body::Union
+        | Body::BSort { .. }
+        | Body::Aggregate { .. }
+        | Body::Join { .. }
+        | Body::Resample { .. } => 1 <= room,
+    }
+}
+
+// Whether boxes have no more ports than this.
+fn all_ports_fit(boxes: &[Node], room: u32) -> bool
+    ensures { IsTrue result ↔ (length (flat_map (λ b. port_names b.name b.body) boxes.now) ≤ room) }
+{
+    let mut left = room;
+    for b in boxes {
+        if !ports_fit(b, left) {
+            return false;
+        }
+        left -= ports_in(b);
+    }
+    true
+}
+
+// Whether each stream has a number.
+#[tactic(auto, using(crate::proofs::Naming::names_count))]
+fn are_numbered(n: &Network) -> bool
+    ensures { IsTrue result ↔ (length (stream_names n.now) < 2 ^ 32) }
+{
+    let sources = n.sources.as_slice().len();
+    sources <= u32::MAX as usize && all_ports_fit(n.boxes.as_slice(), u32::MAX - sources as u32)
+}
+
+#[tactic(auto, using(crate::proofs::Naming::names_count))]
+fn first_named(n: &Network, name: &str) -> Option<u32>
+    requires { length (stream_names n.now) < 2 ^ 32 }
+    ensures { result ≡ stream_named n.now name.now }
 {
     let sources = n.sources.as_slice();
     match source_named(name, sources, 0) {
         Some(stream) => Some(stream),
         None => box_named(name, n.boxes.as_slice(), sources.len() as u32),
     }
+}
+
+/// The number of the first stream of a name: a source's, or a port's of a box. A port of a Filter is named by the box's
+/// name, a dot and its number from 1; the one port of another box by the box's name. In a network of more streams than
+/// 32 bits number, none is told.
+#[tactic(auto, using(crate::proofs::Naming::names_few))]
+pub fn stream_named(n: &Network, name: &str) -> Option<u32>
+    ensures named { length (stream_names n.now) < 2 ^ 32 → result ≡ stream_named n.now name.now }
+    ensures many { 2 ^ 32 ≤ length (stream_names n.now) → result ≡ None }
+    ensures sound { IsSound n.now → result ≡ stream_named n.now name.now }
+    ensures there { IsSound n.now → IfSome result (λ s. is_there (producer_of n.now.wires s) ≡ true) }
+{
+    if !are_numbered(n) {
+        return None;
+    }
+    first_named(n, name)
 }
