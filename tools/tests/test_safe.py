@@ -27,6 +27,17 @@ PAIRS = SOURCE + OUTPUT
 ESCAPE = "\x1b]0;TITLE\x07\u202e"
 
 
+def interrupted(tool):
+    """Interrupts a tool that waits, and returns what it tells. Python hears a signal only when its call into the system is over, so one that comes right
+    before that call is heard with the next."""
+    while True:
+        tool.send_signal(signal.SIGINT)
+        try:
+            return tool.communicate(timeout=10)[1].decode()
+        except subprocess.TimeoutExpired:
+            pass
+
+
 class Safe(unittest.TestCase):
     def setUp(self):
         room = tempfile.TemporaryDirectory()
@@ -252,11 +263,9 @@ class Terminals(Safe):
             with self.subTest(tool=words[0]):
                 tool = subprocess.Popen([f"{TOP}/tools/{words[0]}", *words[1:]], cwd=self.room, stderr=subprocess.PIPE, stdout=subprocess.DEVNULL)
                 pipe = os.open(f"{self.room}/ff", os.O_WRONLY)
-                tool.send_signal(signal.SIGINT)
-                told = tool.stderr.read().decode()
+                told = interrupted(tool)
                 os.close(pipe)
-                tool.stderr.close()
-                self.assertEqual((told, tool.wait()), (f"{words[0]}: interrupted\n", -signal.SIGINT))
+                self.assertEqual((told, tool.returncode), (f"{words[0]}: interrupted\n", -signal.SIGINT))
 
 
 class Lines(Safe):
