@@ -14,9 +14,7 @@ use sq_value::Tuple;
 use std::alloc::{AllocError, Global};
 use std::test::Fail;
 
-fn has_number(n: &Network, name: &str, number: Option<u32>) -> bool
-    requires { IsSound n.now }
-{
+fn has_number(n: &Network, name: &str, number: Option<u32>) -> bool {
     stream_named(n, name) == number
 }
 
