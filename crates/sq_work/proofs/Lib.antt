@@ -1,3 +1,4 @@
+pub mod AuditLemmas
 pub mod JoinLemmas
 pub mod MadeLemmas
 pub mod ReadsLemmas

@@ -1,5 +1,5 @@
 -- What a number makes leads to a replay, or to the rule that it breaks.
-use Rattle.std.proofs.Common.{◌≡◌, ◌≢◌, ◌⊎◌, inl, inr, ℕ, ◌+◌, ◌≤◌, false, List, [], ◌∷◌, ◌++◌, length, drop, refl, ap, sym, ◌∙◌, subst, Some}
+use Rattle.std.proofs.Common.{◌≡◌, ◌≢◌, ◌⊎◌, inl, inr, ℕ, ◌+◌, ◌≤◌, false, List, [], ◌∷◌, ◌++◌, length, drop, refl, ap, ap₂, sym, ◌∙◌, subst, Some}
 use Rattle.std.specs.Prelude.{slice_get, Result, Ok, Err}
 use Rattle.std.proofs.lemmas.List.{drop_all, drop_more}
 use Rattle.std.proofs.lemmas.Option.{get_or_from_slice_get, slice_get_within}
@@ -86,8 +86,8 @@ module _ (number rows : ℕ) (made : Made) (is : made ≡ made_of number rows) w
           made_refused (status.BadStream at line why) source (inr (tt, script_then ∙ leads (made_unread number n entries), name)) result bad.0
 
       -- or it is accepted
-      pub made_accepted : (vs : List (List Tuple)) (picks : List ℕ) → picks ≡ []
+      pub made_accepted : (vs : List (List Tuple)) (picks text : List ℕ) → picks ≡ [] → text ≡ []
           → ((r : AcceptedReplay) → made_streams made.stream (with_sources r []) n.sources ≡ Done (with_sources r vs))
-          → made_script number (made_of number rows) ≡ Done (record (with_sources (made_unread number n entries) vs) { picks = picks })
-      made_accepted vs picks none leads =
-          script_then ∙ leads (made_unread number n entries) ∙ ap (λ ps. Done (record (with_sources (made_unread number n entries) vs) { picks = ps })) (sym none)
+          → made_script number (made_of number rows) ≡ Done (record (with_sources (made_unread number n entries) vs) { picks = picks; text = text })
+      made_accepted vs picks text none no-text leads =
+          script_then ∙ leads (made_unread number n entries) ∙ ap₂ (λ ps ts. Done (record (with_sources (made_unread number n entries) vs) { picks = ps; text = ts })) (sym none) (sym no-text)

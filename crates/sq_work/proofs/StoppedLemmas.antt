@@ -343,3 +343,8 @@ module _ (words : List (List ℕ)) (before mid after : FolderState) (later : IsL
 
   pub accepted_streams : ScriptLeads mid after (after_streams (with_sources r []) r.network.sources) (Done r) → ScriptLeads before after (script_of words) (Done r)
   accepted_streams to = leads_then before mid after _ _ _ later.0 (words_lead words n before mid _ leads) to
+
+-- what was accepted has this text, where it has none
+pub no_text : (words : List (List ℕ)) (before after : FolderState) (r : AcceptedReplay) (text : List ℕ) → text ≡ r.text → ScriptLeads before after (script_of words) (Done r)
+    → ScriptLeads before after (script_of words) (Done (record r { text = text }))
+no_text words before after r text none leads = subst (λ (xs : List ℕ). ScriptLeads before after (script_of words) (Done (record r { text = xs }))) (sym none) leads

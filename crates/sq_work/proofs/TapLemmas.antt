@@ -16,7 +16,7 @@ use Rattle.sq_work.specs.Scripts.{Done, AcceptedReplay, Reads, after_query, afte
 use Rattle.sq_work.specs.FolderStates.{FolderState}
 use Rattle.sq_work.specs.Reads.{IsFileRead, ScriptLeads, LeadsWith, network_read}
 use Rattle.sq_work.specs.AcceptedViews.{IsAskedBy}
-use Rattle.sq_work.proofs.StoppedLemmas.{not_memory, stopped_memory, stopped_rule, stopped_unread, unread_later}
+use Rattle.sq_work.proofs.StoppedLemmas.{no_text, not_memory, stopped_memory, stopped_rule, stopped_unread, unread_later}
 use Rattle.sq_reader.specs.Limits.{settings_limit}
 use Rattle.sq_work.specs.Refusals.{IsUnread, IsStopped, IsQueryRefused, IsBadTap, IsNetworkFile}
 use Rattle.sq_work.proofs.ReadsLemmas.{IsLaterFolder, leads_still, leads_read, with_then, words_lead}
@@ -75,8 +75,9 @@ module _ (words : List (List ℕ)) (stream : List ℕ) (from : ℕ) (n q : Netwo
       (words_lead words n before after _ (subst (λ x. LeadsWith before after words n (after_tap x)) said leads)) tt)
 
 -- what was accepted, by the lists that the body made of nothing
-pub tap_accepted : (words : List (List ℕ)) (before after : FolderState) (r : AcceptedReplay) (entries : Entries) (picks : List ℕ) → entries ≡ r.entries → picks ≡ r.picks
-    → ScriptLeads before after (script_of words) (Done r) → ScriptLeads before after (script_of words) (Done (record r { entries = entries; picks = picks }))
-tap_accepted words before after r entries picks no-entries no-picks leads =
-    subst (λ (es : Entries). ScriptLeads before after (script_of words) (Done (record r { entries = es; picks = picks }))) (sym no-entries)
-    (subst (λ (ps : List ℕ). ScriptLeads before after (script_of words) (Done (record r { picks = ps }))) (sym no-picks) leads)
+pub tap_accepted : (words : List (List ℕ)) (before after : FolderState) (r : AcceptedReplay) (entries : Entries) (picks text : List ℕ) → entries ≡ r.entries → picks ≡ r.picks → text ≡ r.text
+    → ScriptLeads before after (script_of words) (Done r) → ScriptLeads before after (script_of words) (Done (record r { entries = entries; picks = picks; text = text }))
+tap_accepted words before after r entries picks text no-entries no-picks none leads =
+    subst (λ (es : Entries). ScriptLeads before after (script_of words) (Done (record r { entries = es; picks = picks; text = text }))) (sym no-entries)
+    (subst (λ (ps : List ℕ). ScriptLeads before after (script_of words) (Done (record r { picks = ps; text = text }))) (sym no-picks)
+    (no_text words before after r text none leads))

@@ -13,7 +13,7 @@ ghost use Rattle.sq_value.specs.declared.Tuple.{Tuple};
 ghost use Rattle.sq_work.specs.Generation.{HasBadMade, HasBadStreams};
 ghost use Rattle.sq_work.specs.SourceFiles.{AreRecorded};
 ghost use Rattle.sq_work.specs.Scripts.{Done, AcceptedReplay, made_script, made_streams, with_sources};
-ghost use Rattle.sq_work.specs.AcceptedViews.{replay_of};
+ghost use Rattle.sq_work.specs.AcceptedViews.{CanRun, replay_of};
 ghost use Rattle.sq_status.specs.Messages.{source_told};
 ghost use Rattle.sq_work.specs.Refusals.{IsRefusedBy, HasBadLine};
 
@@ -117,11 +117,7 @@ fn made_tuples(alloc: Global, network: &Network, text: Vec<u8>) -> Result<Vec<St
 pub fn prepare_made(alloc: Global, number: u64, rows: u32) -> Result<Accepted, Stopped>
     requires some { 1 ≤ rows }
     requires bound { rows ≤ 1000000 }
-    ensures sound { IfOk result (λ a. IsSound a.network) }
-    ensures limits { IfOk result (λ a. KeepsDropLimits a.network) }
-    ensures recorded { IfOk result (λ a. AreRecorded a.network.sources (map (λ xs. xs.items) a.sources.items)) }
-    ensures train { IfOk result (λ a. 1 ≤ a.train) }
-    ensures frames { IfOk result (λ a. 2 ≤ a.frames) }
+    ensures runs { IfOk result CanRun }
     ensures made { IfOk result (λ a. made_script number (made_of number rows) ≡ Done (replay_of a)) }
     ensures bad { IfErr result (λ s. HasBadMade number rows s.status (source_told s.source)) }
 {
@@ -147,6 +143,7 @@ pub fn prepare_made(alloc: Global, number: u64, rows: u32) -> Result<Accepted, S
             picks: Vec::new(alloc),
             train: TRAIN,
             frames: FRAMES,
+            text: Vec::new(alloc),
             first: 0,
         }),
         Err(stopped) => Err(stopped),

@@ -6,10 +6,12 @@
 //! readers of networks, streams, capacities and picks, the maker of large runs and the joiner of queries.
 #![tactic(auto)]
 
+mod auditing;
 mod generating;
 mod reading;
 mod tapping;
 
+pub use auditing::prepare_audit;
 pub use generating::prepare_made;
 pub use reading::{Accepted, Stopped, prepare, read_file, stopped_by};
 pub use tapping::{Asked, first_tick, prepare_tap};

@@ -6,10 +6,10 @@ ghost use Rattle.sq_replay.specs.Laws.{ReadsStreams};
 ghost use Rattle.sq_replay.specs.Streams.{stream_in};
 ghost use Rattle.sq_command.specs.declared.Command.TheVariants as Command;
 ghost use Rattle.sq_command.specs.Commands.{command_in};
-ghost use Rattle.sq_work.specs.Scripts.{Done, AcceptedReplay, after_streams, capacities_script, picks_script, script_of, with_sources};
+ghost use Rattle.sq_work.specs.Scripts.{Done, AcceptedReplay, after_streams, capacities_script, picks_script, with_sources};
 ghost use Rattle.sq_work.specs.FolderStates.{folder_state};
 ghost use Rattle.sq_work.specs.Reads.{AreBytesOf, ScriptLeads, LeadsWith};
-ghost use Rattle.sq_work.specs.AcceptedViews.{replay_of};
+ghost use Rattle.sq_work.specs.AcceptedViews.{CanRun, IsPrepared};
 ghost use Rattle.sq_work.specs.SourceFiles.{AreRecorded};
 ghost use Rattle.sq_reader.specs.Limits.{settings_limit};
 ghost use Rattle.sq_status.specs.Messages.{source_told};
@@ -336,6 +336,8 @@ pub struct Accepted {
     pub picks: Vec<u32>,
     pub train: u32,
     pub frames: u32,
+    /// The text that is audited; a run has none.
+    pub text: Vec<u8>,
     /// The first box of which lines are shown at the end.
     pub first: u32,
 }
@@ -344,16 +346,10 @@ pub struct Accepted {
 pub fn prepare<F: Folder>(alloc: Global, args: RunArgs, folder: &mut F) -> Result<Accepted, Stopped>
     requires train { 1 ≤ args.train }
     requires frames { 2 ≤ args.frames }
-    ensures sound { IfOk result (λ a. IsSound a.network) }
-    ensures limits { IfOk result (λ a. KeepsDropLimits a.network) }
-    ensures recorded { IfOk result (λ a. AreRecorded a.network.sources (map (λ xs. xs.items) a.sources.items)) }
-    ensures train { IfOk result (λ a. 1 ≤ a.train) }
-    ensures frames { IfOk result (λ a. 2 ≤ a.frames) }
+    ensures runs { IfOk result CanRun }
     ensures first { IfOk result (λ a. a.first ≡ 0) }
-    ensures accepted { IfOk result (λ a. (words : List (List ℕ)) → command_in words ≡ Some (Command.Run args)
-        → ScriptLeads (folder_state F.Folder folder.old) (folder_state F.Folder folder.new) (script_of words) (Done (replay_of a))) }
-    ensures stopped { IfErr result (λ s. (words : List (List ℕ)) → command_in words ≡ Some (Command.Run args)
-        → IsStopped words (folder_state F.Folder folder.old) (folder_state F.Folder folder.new) s.status (source_told s.source)) }
+    ensures prepared { (words : List (List ℕ)) → command_in words ≡ Some (Command.Run args)
+        → IsPrepared words (folder_state F.Folder folder.old) (folder_state F.Folder folder.new) result }
     ensures files { F.files folder.new ≡ F.files folder.old }
     ensures no_fault { OnOk result (F.faults folder.new ≡ F.faults folder.old) }
     ensures later { (F.faults folder.old ≤ F.faults folder.new) × (F.taken folder.old ≤ F.taken folder.new) }
@@ -376,6 +372,7 @@ pub fn prepare<F: Folder>(alloc: Global, args: RunArgs, folder: &mut F) -> Resul
             picks,
             train: args.train,
             frames: args.frames,
+            text: Vec::new(alloc),
             first: 0,
         }),
         Err(stopped) => Err(stopped),

@@ -1,15 +1,13 @@
 // A tap: the network, the query, and the tuples of the network's sources.
-ghost use Rattle.std.specs.Prelude.{◌≡◌, ◌⊎◌, ℕ, ◌^◌, ◌<◌, ◌≤◌, [], Err, IfErr, IfOk, List, Ok, OnOk, length, map};
+ghost use Rattle.std.specs.Prelude.{◌≡◌, ℕ, ◌^◌, ◌<◌, ◌≤◌, [], Err, IfErr, IfOk, List, Ok, OnOk, length};
 ghost use Rattle.sq_net.specs.SoundNetworks.{IsSound};
 ghost use Rattle.sq_points.specs.Limits.{KeepsDropLimits};
 ghost use Rattle.sq_tap.specs.Names.{stream_named};
 ghost use Rattle.sq_work.specs.FolderStates.{folder_state};
-ghost use Rattle.sq_work.specs.Reads.{ScriptLeads, LeadsWith};
-ghost use Rattle.sq_work.specs.SourceFiles.{AreRecorded};
-ghost use Rattle.sq_work.specs.Scripts.{Done, after_query, query_script, script_of};
+ghost use Rattle.sq_work.specs.Reads.{LeadsWith};
+ghost use Rattle.sq_work.specs.Scripts.{after_query, query_script};
 ghost use Rattle.sq_work.specs.Taps.{first_tick, tapped};
-ghost use Rattle.sq_work.specs.AcceptedViews.{IsAskedBy, replay_of};
-ghost use Rattle.sq_status.specs.Messages.{source_told};
+ghost use Rattle.sq_work.specs.AcceptedViews.{CanRun, IsAskedBy, IsPrepared};
 ghost use Rattle.sq_work.specs.Refusals.{IsStopped, IsQueryRefused, IsTapRefused, IsBadTap};
 
 use crate::generating::{FRAMES, TRAIN};
@@ -148,16 +146,9 @@ pub fn prepare_tap<F: Folder>(
     folder: &mut F,
 ) -> Result<Accepted, Stopped>
     requires { asked.now.from < 2 ^ 40 }
-    ensures sound { IfOk result (λ a. IsSound a.network) }
-    ensures limits { IfOk result (λ a. KeepsDropLimits a.network) }
-    ensures recorded { IfOk result (λ a. AreRecorded a.network.sources (map (λ xs. xs.items) a.sources.items)) }
-    ensures train { IfOk result (λ a. 1 ≤ a.train) }
-    ensures frames { IfOk result (λ a. 2 ≤ a.frames) }
-    ensures first { IfOk result (λ a. a.first ≤ length a.network.boxes) }
-    ensures accepted { IfOk result (λ a. (words : List (List ℕ)) → IsAskedBy asked.now words
-        → ScriptLeads (folder_state F.Folder folder.old) (folder_state F.Folder folder.new) (script_of words) (Done (replay_of a))) }
-    ensures stopped { IfErr result (λ s. (words : List (List ℕ)) → IsAskedBy asked.now words
-        → IsStopped words (folder_state F.Folder folder.old) (folder_state F.Folder folder.new) s.status (source_told s.source)) }
+    ensures runs { IfOk result CanRun }
+    ensures prepared { (words : List (List ℕ)) → IsAskedBy asked.now words
+        → IsPrepared words (folder_state F.Folder folder.old) (folder_state F.Folder folder.new) result }
     ensures files { F.files folder.new ≡ F.files folder.old }
     ensures no_fault { OnOk result (F.faults folder.new ≡ F.faults folder.old) }
     ensures later { (F.faults folder.old ≤ F.faults folder.new) × (F.taken folder.old ≤ F.taken folder.new) }
@@ -180,6 +171,7 @@ pub fn prepare_tap<F: Folder>(
             picks: Vec::new(alloc),
             train: TRAIN,
             frames: FRAMES,
+            text: Vec::new(alloc),
             first: joined.first,
         }),
         Err(stopped) => Err(stopped),

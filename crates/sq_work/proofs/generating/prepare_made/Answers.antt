@@ -34,10 +34,20 @@ pub returns-in-Ok-made_tuples-clause-made : goal.returns-in-Ok-made_tuples-claus
 returns-in-Ok-made_tuples-clause-made c =
     made_accepted c.args.number c.args.rows c.in-Ok.made c.in-Ok.ensures c.in-Ok-made_network.network c.in-Ok-made_network.ensures.network
     _ c.in-Ok-made_capacities.ensures.capacities
-    (map (λ xs. xs.items) c.in-Ok-made_tuples.sources.items) c.new.result.items c.new.ensures.items (rw c.into_vec.ensures at c.in-Ok-made_tuples.ensures.made)
+    (map (λ xs. xs.items) c.in-Ok-made_tuples.sources.items) c.new.result.items c.new-in-Ok-made_tuples.result.items c.new.ensures.items c.new-in-Ok-made_tuples.ensures.items (rw c.into_vec.ensures at c.in-Ok-made_tuples.ensures.made)
 
 pub returns-in-Err-made_tuples-clause-bad : goal.returns-in-Err-made_tuples-clause-bad
 returns-in-Err-made_tuples-clause-bad c =
     bad_streams c.args.number c.args.rows c.in-Ok.made c.in-Ok.ensures c.in-Ok-made_network.network c.in-Ok-made_network.ensures.network
     c.in-Ok-made_capacities.capacities c.in-Ok-made_capacities.ensures.capacities
     c.in-Err-made_tuples.stopped.status _ (rw c.into_vec.ensures at c.in-Err-made_tuples.ensures.bad)
+
+pub returns-in-Ok-made_tuples-clause-runs : goal.returns-in-Ok-made_tuples-clause-runs
+returns-in-Ok-made_tuples-clause-runs c = record {
+  sound = c.in-Ok-made_network.ensures.sound;
+  limits = c.in-Ok-made_network.ensures.limits;
+  recorded = c.in-Ok-made_tuples.ensures.recorded;
+  train = omega arith;
+  frames = omega arith;
+  first = omega arith;
+}
