@@ -1,16 +1,13 @@
 -- What a run that counts its lines knows on its way.
-use Rattle.std.specs.Prelude.{◌≡◌, ℕ, ◌+◌, ◌<◌, List, ◌++◌, length, map, Option}
-use Rattle.std.specs.List.{AllByRecursion}
+use Rattle.std.specs.Prelude.{◌≡◌, ℕ, ◌+◌, ◌<◌, List, ◌++◌, length, map}
 use Rattle.sq_words.specs.Lists.{numbers_to}
-use Rattle.sq_outside.specs.Disks.{Pages}
 use Rattle.sq_net.specs.declared.Network.{Network}
 use Rattle.sq_oper.specs.declared.outs.Event.{Event}
 use Rattle.sq_model.specs.Shedding.{Replay}
 use Rattle.sq_flow.specs.Events.{drops_of, lines_of}
 use Rattle.sq_core.specs.declared.engine.Engine.{Engine}
-use Rattle.sq_core.specs.Runs.{IsRun, fed_at, late_at_seat}
+use Rattle.sq_core.specs.Runs.{fed_at, late_at_seat}
 use Rattle.sq_drive.specs.declared.counting.Counts.{Counts}
-use Rattle.sq_drive.specs.Driving.{IsEventAt}
 use Rattle.sq_drive.specs.Summaries.{summary_text}
 use Rattle.sq_points.specs.Points.{drops_in}
 use Rattle.sq_drive.specs.Due.{answer_in, fed_in, late_counts, work_in}
@@ -30,13 +27,6 @@ pub record Counted (events : List Event) (before now : Counts) : Type 0 where
   pub lines : length now.lines.items ≡ length before.lines.items
   pub drops : length now.drops.items ≡ length before.drops.items
   pub more : (history : List Event) → AreCountsOf history before → AreCountsOf (history ++ events) now
-
--- an engine went on: it showed these events more, and they were counted
-pub record CountsOn (was is : Option Pages) (from to : Engine) (begun now : ℕ) (before after : Counts) : Type 0 where
-  pub events : List Event
-  pub shown : AllByRecursion (IsEventAt from.network) events
-  pub counted : Counted events before after
-  pub goes : (r : Replay) (history : List Event) (start : ℕ) → IsRun r was from history start begun → IsRun r is to (history ++ events) start now
 
 -- the summary by these counts, and by what the boxes of an engine were fed
 abbrev pub engine_summary : ℕ → ℕ → Engine → Counts → List ℕ

@@ -1,5 +1,5 @@
 -- What a run shows on its way: a history of events, whose lines are written one after another.
-use Rattle.std.specs.Prelude.{◌≡◌, ◌≢◌, ℕ, ◌+◌, ◌^◌, ◌<◌, ◌≤◌, Bool, true, false, List, [], ◌++◌, length, map, Option}
+use Rattle.std.specs.Prelude.{◌≡◌, ◌≢◌, ℕ, ◌+◌, ◌^◌, ◌<◌, ◌≤◌, Bool, true, false, List, ◌++◌, length, map, Option}
 use Rattle.std.specs.List.{AllByRecursion, flat_map}
 use Rattle.sq_words.specs.Lists.{IsPrefixOf, numbers_to}
 use Rattle.sq_outside.specs.Disks.{Pages}
@@ -13,16 +13,16 @@ use Rattle.sq_pool.specs.Trust.{Tells}
 use Rattle.sq_road.specs.Levels.{AgreesWith}
 use Rattle.sq_plan.specs.PlanRows.{level_for}
 use Rattle.sq_flow.specs.Events.{IsEventIn, drops_of, lines_of}
-use Rattle.sq_flow.specs.Flows.{HoldsItems, Stepped, decisions_left, items_in, lines_left}
+use Rattle.sq_flow.specs.Engines.{AllDone}
+use Rattle.sq_flow.specs.Flows.{HoldsItems, decisions_left, items_in, lines_left}
 use Rattle.sq_flow.specs.Plans.{IsPlanned, plans_left, plans_of}
 use Rattle.sq_core.specs.declared.engine.Engine.{Engine}
 use Rattle.sq_core.specs.Meanings.{actors}
-use Rattle.sq_core.specs.Runs.{IsRun, fed_at, late_at_seat}
+use Rattle.sq_core.specs.Runs.{IsSoundEngine, fed_at, late_at_seat}
 use Rattle.sq_status.specs.declared.Status.{Status}
 use Rattle.sq_status.specs.declared.Status.TheVariants as status
 use Rattle.sq_points.specs.Points.{drops_in}
 use Rattle.sq_drive.specs.Due.{Answer, answer_in, fed_in, late_counts, turns_in, work_in}
-use Rattle.sq_drive.specs.Writing.{Moves}
 use Rattle.sq_status.specs.StatusKinds.{is_refusal, is_changed, is_garbled}
 
 -- a tuple at an output that is there, a decision of a drop that is there, or a plan
@@ -56,18 +56,21 @@ pub record IsDriven (r : Replay) (history : List Event) (engine : Engine) (befor
   pub late : (at : ℕ) → at < length r.network.boxes → late_at_seat engine at ≡ late_counts r at
   pub work : steps ≡ begun + work_in r
 
--- it stopped on its way, over a disk that is known now: what was written begins the text of events behind which the history still
--- shows the first of the answer, the steps are no more than the work, an honest disk changed no page, a page that came back changed was
--- garbled, and too much was to be fed only where the turns are too many
-pub record IsHalted (honest : Bool) (r : Replay) (history : List Event) (result : Status) (before now : Option (List ℕ)) (begun steps : ℕ) : Type 0 where
-  pub events : List Event
-  pub shown : AllByRecursion (IsEventAt r.network) events
-  pub first : BeginsAnswer r.network (answer_in r) (history ++ events)
-  pub written : AppendsPrefix before now (history_text r.network events)
+-- a run stopped, over a disk that is known then: its history shows the first of the answer, the steps are no more than the work, an honest
+-- disk changed no page, a page that came back changed was garbled, and too much was to be fed only where the turns are too many
+pub record StoppedWith (honest : Bool) (r : Replay) (history : List Event) (begun steps : ℕ) (result : Status) : Type 0 where
+  pub first : BeginsAnswer r.network (answer_in r) history
   pub work : steps ≤ begun + work_in r
   pub unchanged : honest ≡ true → is_changed result ≡ false
   pub garbled : is_changed result ≡ true → is_garbled result ≡ true
   pub too_much : result ≡ status.TooMuch → 2 ^ 62 ≤ turns_in r
+
+-- an engine that has shown a history stopped on its way: what was written begins the text of events with which the run stopped behind it
+pub record IsHalted (honest : Bool) (r : Replay) (history : List Event) (result : Status) (before now : Option (List ℕ)) (begun steps : ℕ) : Type 0 where
+  pub events : List Event
+  pub shown : AllByRecursion (IsEventAt r.network) events
+  pub written : AppendsPrefix before now (history_text r.network events)
+  pub stopped : StoppedWith honest r (history ++ events) begun steps result
 
 -- the end lines from a box on, by what the boxes of an engine were fed
 abbrev pub ends_text : ℕ → Engine → List ℕ
@@ -80,53 +83,15 @@ pub record IsCutShort (faults_before faults_now : ℕ) (result : Status) : Type 
   pub no_end : result ≢ status.Ok
   pub sink : result ≡ status.SinkFault → Rose faults_before faults_now
 
--- an engine went on: it showed these events more, and their lines were written or wait
-pub record GoesOn (was is : Option Pages) (from to : Engine) (begun now : ℕ) (before : Option (List ℕ)) (waited : List ℕ) (after : Option (List ℕ)) (waits : List ℕ) : Type 0 where
-  pub events : List Event
-  pub shown : AllByRecursion (IsEventAt from.network) events
-  pub moves : Moves before waited after waits (history_text from.network events)
-  pub goes : (r : Replay) (history : List Event) (start : ℕ) → IsRun r was from history start begun → IsRun r is to (history ++ events) start now
+-- an engine came to its end: sound, of the same network, and all its actors are finished
+pub record IsEndOf (from to : Engine) : Type 0 where
+  pub network : to.network ≡ from.network
+  pub sound : IsSoundEngine to
+  pub done : AllDone to.engine.flow
 
--- it stopped behind a history: of the events more that it showed a part of the lines was written
-pub record StopsBehind (honest : Bool) (r : Replay) (history : List Event) (start now : ℕ) (before : Option (List ℕ)) (waited : List ℕ) (after : Option (List ℕ)) (result : Status) : Type 0 where
-  pub events : List Event
-  pub shown : AllByRecursion (IsEventAt r.network) events
-  pub first : BeginsAnswer r.network (answer_in r) (history ++ events)
-  pub written : AppendsPrefix before after (waited ++ history_text r.network events)
-  pub work : now ≤ start + work_in r
-  pub unchanged : honest ≡ true → is_changed result ≡ false
-  pub garbled : is_changed result ≡ true → is_garbled result ≡ true
-  pub too_much : result ≡ status.TooMuch → 2 ^ 62 ≤ turns_in r
-
--- where the disk is known then
-abbrev pub Stops : Option Pages → Option Pages → Bool → Engine → ℕ → ℕ → Option (List ℕ) → List ℕ → Option (List ℕ) → Status → Type 0
-Stops was is honest from begun now before waited after result =
-    (r : Replay) (history : List Event) (start : ℕ) → Tells is → IsRun r was from history start begun
-    → StopsBehind honest r history start now before waited after result
-
--- whatever an engine has shown before: it went on, and showed the first of what was left of it, of which the lines were written or wait
-pub record ShowsOn (was is : Option Pages) (from to : Engine) (before : Option (List ℕ)) (waited : List ℕ) (after : Option (List ℕ)) (waits : List ℕ) : Type 0 where
-  pub events : List Event
-  pub shown : AllByRecursion (IsEventAt from.network) events
-  pub moves : Moves before waited after waits (history_text from.network events)
-  pub left : Stepped actors was is from.engine.flow to.engine.flow [] events
-
--- it stopped behind the steps that ended well: of the lines of what they showed a part was written
-pub record StopsOn (was is : Option Pages) (from : Engine) (before : Option (List ℕ)) (waited : List ℕ) (after : Option (List ℕ)) : Type 0 where
-  pub mid : Option Pages
-  pub tells : Tells is → Tells mid
-  pub last : Engine
-  pub events : List Event
-  pub shown : AllByRecursion (IsEventAt from.network) events
-  pub left : Stepped actors was mid from.engine.flow last.engine.flow [] events
-  pub written : AppendsPrefix before after (waited ++ history_text from.network events)
-
--- it came to its end: the text of events was written that show exactly what was left of it. Its plans over every disk; where the disk is
--- known, at every table of levels that agrees with those of the closed epochs, the lines of each output and the decisions of each drop
-pub record WritesRest (was is : Option Pages) (from to : Engine) (before now : Option (List ℕ)) : Type 0 where
-  pub events : List Event
-  pub shown : AllByRecursion (IsEventAt from.network) events
-  pub written : now ≡ appended before (history_text from.network events)
+-- these events show exactly what was left of an engine that came to its end. Its plans over every disk; where the disk is known, at every
+-- table of levels that agrees with those of the closed epochs, the lines of each output and the decisions of each drop
+pub record IsRestOf (was is : Option Pages) (from to : Engine) (events : List Event) : Type 0 where
   pub plans : plans_of events ≡ plans_left from.engine.flow
   pub lines : Tells is → (table : ℕ → ℕ → ℕ) → AgreesWith to.engine.flow.levels table → HoldsItems actors table (items_in from.engine.flow was) from.engine.flow
       → (o : ℕ) → o < length from.network.outputs → lines_of o events ≡ lines_left actors table (items_in from.engine.flow was) from.engine.flow o
@@ -134,7 +99,14 @@ pub record WritesRest (was is : Option Pages) (from to : Engine) (before now : O
       → (w : ℕ) → w < drops_in from.network
       → drops_of w events ≡ decisions_left actors table (items_in from.engine.flow was) from.engine.flow (from.engine.flow.wires.sheds + w)
 
--- it stopped on its way: a beginning of the text of events was written that show the first of what was left of it, at the levels that
+-- and their text was written
+pub record WritesRest (was is : Option Pages) (from to : Engine) (before now : Option (List ℕ)) : Type 0 where
+  pub events : List Event
+  pub shown : AllByRecursion (IsEventAt from.network) events
+  pub written : now ≡ appended before (history_text from.network events)
+  pub rest : IsRestOf was is from to events
+
+-- an engine stopped on its way: a beginning of the text of events was written that show the first of what was left of it, at the levels that
 -- the plans of all that arrives give
 pub record WritesFirst (was is : Option Pages) (from : Engine) (before now : Option (List ℕ)) : Type 0 where
   pub events : List Event

@@ -1,10 +1,9 @@
 -- How an engine came to fail.
-use Rattle.std.specs.Prelude.{◌≡◌, ℕ, List, [], Option}
+use Rattle.std.specs.Prelude.{◌≡◌, ℕ, [], Option}
 use Rattle.sq_outside.specs.Disks.{DiskLog, Pages}
-use Rattle.sq_oper.specs.declared.outs.Event.{Event}
 use Rattle.sq_queue.specs.Faces.{frames}
 use Rattle.sq_flow.specs.declared.errors.RunErr.{RunErr}
-use Rattle.sq_flow.specs.Flows.{FailsAt, Stepped}
+use Rattle.sq_flow.specs.Flows.{FailsAt}
 use Rattle.sq_core.specs.declared.engine.Engine.{Engine}
 use Rattle.sq_core.specs.Meanings.{actors}
 use Rattle.sq_core.specs.Runs.{IsRun}
@@ -12,11 +11,6 @@ use Rattle.sq_status.specs.declared.Status.{Status}
 use Rattle.sq_work.specs.Scripts.{AcceptedReplay}
 use Rattle.sq_drive.specs.Due.{replayed}
 use Rattle.sq_drive.specs.Stopping.{status_of}
-
--- from one engine, by steps that ended well, it came to another
-pub record WentOn (was is : Option Pages) (from to : Engine) : Type 0 where
-  pub shown : List Event
-  pub stepped : Stepped actors was is from.engine.flow to.engine.flow [] shown
 
 -- from one engine, by steps that ended well, it came to another, of the same network, whose last feed failed with the error of this status:
 -- where the item was strange, or too much, it took the first of an arc and no more

@@ -6,3 +6,4 @@ pub mod Due
 pub mod Answers
 pub mod Stopping
 pub mod Failing
+pub mod Turns

@@ -1,24 +1,21 @@
-// A run, driven to its end.
-ghost use Rattle.std.specs.Prelude.{◌≡◌, ℕ, ◌+◌, ◌≤◌, ◌<◌, ◌++◌, IfErr, IfOk, List, OnErr, OnOk, length};
-ghost use Rattle.std.specs.List.{AllByRecursion};
+// A run, driven to its end before an audience.
+ghost use Rattle.std.specs.Prelude.{◌≡◌, ℕ, ◌≤◌, ◌<◌, [], IfErr, IfOk, List, None, OnErr, OnOk, length};
 ghost use Rattle.sq_model.specs.Shedding.{Replay};
 ghost use Rattle.sq_oper.specs.declared.outs.Event.{Event};
-ghost use Rattle.sq_lines.specs.RunLines.{event_line};
-ghost use Rattle.sq_outside.specs.Sinks.{AppendsPrefix};
 ghost use Rattle.sq_pool.specs.Trust.{IsLater, Tells, known};
 ghost use Rattle.sq_queue.specs.Faces.{Together};
 ghost use Rattle.sq_flow.specs.Flows.{measure_of};
-ghost use Rattle.sq_flow.specs.Engines.{AllDone};
 ghost use Rattle.sq_core.specs.Runs.{IsRun, IsSoundEngine};
-ghost use Rattle.sq_drive.specs.Writing.{IsLost, Moves};
-ghost use Rattle.sq_drive.specs.Driving.{GoesOn, IsCutShort, IsDriven, IsEventAt, IsHalted, ShowsOn, Stops, StopsOn, WritesFirst, WritesRest, history_text};
+ghost use Rattle.sq_drive.specs.Counting.{HasCounts, IsSummed};
+ghost use Rattle.sq_drive.specs.Driving.{IsCutShort, IsDriven, IsEndOf, IsHalted, WritesFirst, WritesRest};
 ghost use Rattle.sq_drive.specs.Stopping.{StopHasCause, status_of};
 ghost use Rattle.sq_drive.specs.Failing.{CameTo};
+ghost use Rattle.sq_drive.specs.Turns.{IsBegunOn, IsShownOn, KeepsRun, RunsOut, TurnFails, TurnsOn, run_state};
 
-use crate::writing::{send, send_piece};
+use crate::audience::Audience;
+use crate::counting::{Counts, no_counts};
+use crate::lines::LineWriter;
 use sq_core::{Engine, RunErr};
-use sq_lines::{Quoter, append_event_line};
-use sq_net::Network;
 use sq_oper::Event;
 use sq_outside::{PageDisk, Sink, Steps};
 use sq_sched::Policy;
@@ -26,61 +23,8 @@ use sq_status::Status;
 use std::alloc::Global;
 use std::sync::ledger::Ledger;
 
-/// What a run holds between two picks.
-#[derive(Drop)]
-struct Held {
-    /// What one pick has shown: its memory is used again.
-    events: Vec<Event>,
-    /// Lines that wait to be written.
-    text: Vec<u8>,
-    quoter: Quoter,
-}
-
-/// Writes the line of an event.
-fn show_event<S: Sink>(
-    network: &Network,
-    event: &Event,
-    quoter: &mut Quoter,
-    text: &mut Vec<u8>,
-    out: &mut S,
-) -> Result<(), Status>
-    requires there { IsEventAt network.now event.now }
-    ensures ok { OnOk result (Moves (S.written out.old) text.old.items (S.written out.new) text.new.items (event_line network.now event.now)) }
-    ensures err { OnErr result (AppendsPrefix (S.written out.old) (S.written out.new) (text.old.items ++ event_line network.now event.now)) }
-    ensures lost { IfErr result (λ s. IsLost (S.faults out.old) (S.faults out.new) s) }
-    ensures later { S.faults out.old ≤ S.faults out.new }
-{
-    match append_event_line(network, event, quoter, text) {
-        Ok(()) => send_piece(text, out),
-        Err(_) => Err(Status::Memory),
-    }
-}
-
-/// Writes the lines of events.
-fn show_events<S: Sink>(
-    network: &Network,
-    events: &[Event],
-    quoter: &mut Quoter,
-    text: &mut Vec<u8>,
-    out: &mut S,
-) -> Result<(), Status>
-    requires there { AllByRecursion (IsEventAt network.now) events.now }
-    ensures ok { OnOk result (Moves (S.written out.old) text.old.items (S.written out.new) text.new.items (history_text network.now events.now)) }
-    ensures err { OnErr result (AppendsPrefix (S.written out.old) (S.written out.new) (text.old.items ++ history_text network.now events.now)) }
-    ensures lost { IfErr result (λ s. IsLost (S.faults out.old) (S.faults out.new) s) }
-    ensures later { S.faults out.old ≤ S.faults out.new }
-{
-    'events: for event in events {
-        match show_event(network, event, quoter, text, out) {
-            Ok(()) => {}
-            Err(status) => return Err(status),
-        }
-    }
-    Ok(())
-}
-
 /// How a run ends whose engine stopped.
-pub(crate) fn status_of(e: RunErr) -> Status
+fn status_of(e: RunErr) -> Status
     ensures { result ≡ status_of e }
 {
     match e {
@@ -93,88 +37,69 @@ pub(crate) fn status_of(e: RunErr) -> Status
     }
 }
 
-/// Up to a train of steps of the actor that the policy picks, and the lines of what they show.
-fn step_once<D: PageDisk, S: Sink, L: Ledger>(
+/// Up to a train of steps of the actor that the policy picks, of which the events are shown.
+fn step_once<D: PageDisk, O, A: Audience<O>, L: Ledger>(
     engine: &mut Engine,
     policy: &mut Policy,
     disk: &mut D,
-    held: &mut Held,
-    out: &mut S,
+    events: &mut Vec<Event>,
+    audience: &mut A,
+    out: &mut O,
     steps: &mut Steps<L>,
 ) -> Result<(), Status>
     requires sound { IsSoundEngine engine.old }
     requires together { Together engine.old.engine.flow.queues (known (D.log disk.old)) }
     requires runs { 0 < length engine.old.engine.ready.list }
-    ensures sound { OnOk result (IsSoundEngine engine.new) }
-    ensures together { OnOk result (Together engine.new.engine.flow.queues (known (D.log disk.new))) }
-    ensures network { engine.new.network ≡ engine.old.network }
-    ensures later { IsLater (D.log disk.old) (D.log disk.new) }
+    requires ready { A.ready audience.old engine.old.network }
+    ensures keeps { KeepsRun (run_state D.PageDisk engine.old disk.old steps.old) (run_state D.PageDisk engine.new disk.new steps.new) }
     ensures falls { OnOk result (measure_of engine.new.engine.flow < measure_of engine.old.engine.flow) }
-    ensures ok { OnOk result (GoesOn (known (D.log disk.old)) (known (D.log disk.new)) engine.old engine.new steps.old steps.new (S.written out.old) held.old.text.items (S.written out.new) held.new.text.items) }
-    ensures err { IfErr result (λ s. Stops (known (D.log disk.old)) (known (D.log disk.new)) (D.log disk.old).honest engine.old steps.old steps.new (S.written out.old) held.old.text.items (S.written out.new) s) }
-    ensures left { OnOk result (ShowsOn (known (D.log disk.old)) (known (D.log disk.new)) engine.old engine.new (S.written out.old) held.old.text.items (S.written out.new) held.new.text.items) }
-    ensures first { OnErr result (StopsOn (known (D.log disk.old)) (known (D.log disk.new)) engine.old (S.written out.old) held.old.text.items (S.written out.new)) }
-    ensures cut { IfErr result (IsCutShort (S.faults out.old) (S.faults out.new)) }
-    ensures stopped { IfErr result (λ s. StopHasCause (λ e. (e ≡ engine.new) × CameTo (D.log disk.old) (D.log disk.new) engine.old s e)
-        (D.log disk.old) (D.log disk.new) (D.faults disk.old) (D.faults disk.new) s) }
-    ensures faults { (D.faults disk.old ≤ D.faults disk.new) × (S.faults out.old ≤ S.faults out.new) }
+    ensures ok { OnOk result (TurnsOn (IsShownOn A.shown engine.old.network audience.old out.old audience.new out.new)
+        (run_state D.PageDisk engine.old disk.old steps.old) (run_state D.PageDisk engine.new disk.new steps.new)) }
+    ensures err { IfErr result (TurnFails (IsBegunOn A.shown A.begun engine.old.network audience.old out.old out.new) (A.faults out.old) (A.faults out.new)
+        (run_state D.PageDisk engine.old disk.old steps.old) (run_state D.PageDisk engine.new disk.new steps.new)) }
+    ensures ready { OnOk result (A.ready audience.new engine.old.network) }
+    ensures later { A.faults out.old ≤ A.faults out.new }
 {
     let pick = policy.next(engine.ready(), engine.waits());
-    held.events.clear();
-    match engine.step(pick, disk, &mut held.events, steps) {
-        Ok(_) => show_events(
-            &engine.network,
-            held.events.as_slice(),
-            &mut held.quoter,
-            &mut held.text,
-            out,
-        ),
+    events.clear();
+    match engine.step(pick, disk, events, steps) {
+        Ok(_) => audience.show(&engine.network, events.as_slice(), out),
         Err(e) => Err(status_of(e)),
     }
 }
 
-/// Steps an engine that another owns until it has ended, and writes the lines. Where it fails, its owner alone lets it go.
-fn step_to_end<D: PageDisk, S: Sink, L: Ledger>(
+/// Steps an engine that another owns until it has ended, and shows its events. Where it fails, its owner alone lets it go.
+fn step_to_end<D: PageDisk, O, A: Audience<O>, L: Ledger>(
     alloc: Global,
     engine: &mut Engine,
     policy: &mut Policy,
     disk: &mut D,
-    out: &mut S,
+    audience: &mut A,
+    out: &mut O,
     steps: &mut Steps<L>,
 ) -> Result<(), Status>
     requires sound { IsSoundEngine engine.old }
     requires together { Together engine.old.engine.flow.queues (known (D.log disk.old)) }
-    ensures sound { OnOk result (IsSoundEngine engine.new) }
-    ensures done { OnOk result (AllDone engine.new.engine.flow) }
-    ensures network { OnOk result (engine.new.network ≡ engine.old.network) }
-    ensures ok { OnOk result ((r : Replay) (history : List Event) (begun : ℕ)
-        → Tells (known (D.log disk.new)) → IsRun r (known (D.log disk.old)) engine.old history begun steps.old
-        → IsDriven r history engine.new (S.written out.old) (S.written out.new) begun steps.new) }
-    ensures err { IfErr result (λ s. (r : Replay) (history : List Event) (begun : ℕ)
-        → Tells (known (D.log disk.new)) → IsRun r (known (D.log disk.old)) engine.old history begun steps.old
-        → IsHalted (D.log disk.old).honest r history s (S.written out.old) (S.written out.new) begun steps.new) }
-    ensures rest { OnOk result (WritesRest (known (D.log disk.old)) (known (D.log disk.new)) engine.old engine.new (S.written out.old) (S.written out.new)) }
-    ensures first { OnErr result (WritesFirst (known (D.log disk.old)) (known (D.log disk.new)) engine.old (S.written out.old) (S.written out.new)) }
-    ensures cut { IfErr result (IsCutShort (S.faults out.old) (S.faults out.new)) }
-    ensures stopped { IfErr result (λ s. StopHasCause (λ e. (e ≡ engine.new) × CameTo (D.log disk.old) (D.log disk.new) engine.old s e)
-        (D.log disk.old) (D.log disk.new) (D.faults disk.old) (D.faults disk.new) s) }
-    ensures faults { (D.faults disk.old ≤ D.faults disk.new) × (S.faults out.old ≤ S.faults out.new) }
-    ensures later { IsLater (D.log disk.old) (D.log disk.new) }
+    requires ready { A.ready audience.old engine.old.network }
+    requires none { A.shown out.old audience.old out.old engine.old.network [] }
+    ensures keeps { KeepsRun (run_state D.PageDisk engine.old disk.old steps.old) (run_state D.PageDisk engine.new disk.new steps.new) }
+    ensures ok { OnOk result (RunsOut (A.whole out.old audience.new out.new engine.old.network)
+        (run_state D.PageDisk engine.old disk.old steps.old) (run_state D.PageDisk engine.new disk.new steps.new)) }
+    ensures err { IfErr result (TurnFails (A.begun out.old out.new engine.old.network) (A.faults out.old) (A.faults out.new)
+        (run_state D.PageDisk engine.old disk.old steps.old) (run_state D.PageDisk engine.new disk.new steps.new)) }
+    ensures ready { OnOk result (A.ready audience.new engine.old.network) }
+    ensures later { A.faults out.old ≤ A.faults out.new }
 {
-    let mut held = Held {
-        events: Vec::new(alloc),
-        text: Vec::new(alloc),
-        quoter: Quoter::new(),
-    };
+    let mut events = Vec::new(alloc);
     'steps: while !engine.ended() {
-        match step_once(engine, policy, disk, &mut held, out, steps) {
+        match step_once(engine, policy, disk, &mut events, audience, out, steps) {
             Ok(()) => {}
             Err(status) => return Err(status),
         }
     }
     engine.all_shown();
     engine.nothing_left();
-    match send(&mut held.text, out) {
+    match audience.close(out) {
         Ok(()) => Ok(()),
         Err(status) => Err(status),
     }
@@ -197,9 +122,7 @@ pub fn drive<D: PageDisk, S: Sink, L: Ledger>(
 ) -> Result<Engine, Status>
     requires sound { IsSoundEngine engine }
     requires together { Together engine.engine.flow.queues (known (D.log disk.old)) }
-    ensures sound { IfOk result (λ e. IsSoundEngine e) }
-    ensures done { IfOk result (λ e. AllDone e.engine.flow) }
-    ensures network { IfOk result (λ e. e.network ≡ engine.network) }
+    ensures ended { IfOk result (IsEndOf engine) }
     ensures ok { IfOk result (λ e. (r : Replay) (history : List Event) (begun : ℕ)
         → Tells (known (D.log disk.new)) → IsRun r (known (D.log disk.old)) engine history begun steps.old
         → IsDriven r history e (S.written out.old) (S.written out.new) begun steps.new) }
@@ -214,8 +137,58 @@ pub fn drive<D: PageDisk, S: Sink, L: Ledger>(
     ensures faults { (D.faults disk.old ≤ D.faults disk.new) × (S.faults out.old ≤ S.faults out.new) }
     ensures later { IsLater (D.log disk.old) (D.log disk.new) }
 {
-    match step_to_end(alloc, &mut engine, &mut policy, disk, out, steps) {
+    let mut lines = LineWriter::new(alloc);
+    match step_to_end(
+        alloc,
+        &mut engine,
+        &mut policy,
+        disk,
+        &mut lines,
+        out,
+        steps,
+    ) {
         Ok(()) => Ok(engine),
+        Err(status) => Err(status),
+    }
+}
+
+/// Steps an engine by the picks of a policy until it has ended, and counts the line of each event.
+pub fn count<D: PageDisk, L: Ledger>(
+    alloc: Global,
+    mut engine: Engine,
+    mut policy: Policy,
+    disk: &mut D,
+    steps: &mut Steps<L>,
+) -> Result<(Engine, Counts), Status>
+    requires sound { IsSoundEngine engine }
+    requires together { Together engine.engine.flow.queues (known (D.log disk.old)) }
+    ensures ended { IfOk result (λ c. IsEndOf engine c.0) }
+    ensures room { IfOk result (λ c. HasCounts (c.0).network c.1) }
+    ensures ok { IfOk result (λ c. (r : Replay) (begun : ℕ) → Tells (known (D.log disk.new)) → IsRun r (known (D.log disk.old)) engine [] begun steps.old
+        → IsSummed r c.0 c.1 begun steps.new) }
+    ensures err { IfErr result (λ s. (r : Replay) (begun : ℕ) → Tells (known (D.log disk.new)) → IsRun r (known (D.log disk.old)) engine [] begun steps.old
+        → IsHalted (D.log disk.old).honest r [] s None None begun steps.new) }
+    ensures cut { IfErr result (λ s. (before now : ℕ) → IsCutShort before now s) }
+    ensures stopped { IfErr result (λ s. StopHasCause (CameTo (D.log disk.old) (D.log disk.new) engine s)
+        (D.log disk.old) (D.log disk.new) (D.faults disk.old) (D.faults disk.new) s) }
+    ensures faults { D.faults disk.old ≤ D.faults disk.new }
+    ensures later { IsLater (D.log disk.old) (D.log disk.new) }
+{
+    let mut counts = match no_counts(alloc, &engine) {
+        Ok(counts) => counts,
+        Err(_) => return Err(Status::Memory),
+    };
+    let mut nowhere = ();
+    match step_to_end(
+        alloc,
+        &mut engine,
+        &mut policy,
+        disk,
+        &mut counts,
+        &mut nowhere,
+        steps,
+    ) {
+        Ok(()) => Ok((engine, counts)),
         Err(status) => Err(status),
     }
 }

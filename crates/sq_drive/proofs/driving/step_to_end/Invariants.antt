@@ -1,22 +1,18 @@
-use Rattle.std.proofs.Common.{◌≡◌, ◌≤◌, []}
-use Rattle.sq_pool.specs.Trust.{IsLater, known}
-use Rattle.sq_queue.specs.Faces.{Together}
+use Rattle.std.proofs.Common.{◌≤◌}
 use Rattle.sq_flow.specs.Flows.{measure_of}
-use Rattle.sq_core.specs.Runs.{IsSoundEngine}
-use Rattle.sq_drive.specs.Driving.{GoesOn, ShowsOn}
+use Rattle.sq_drive.specs.Turns.{KeepsRun, TurnsOn, run_state}
 use Rattle.sq_drive.proofs.driving.step_to_end.Given as goal
 
 abbrev pub invariant-steps : goal.invariant-steps
-invariant-steps g l = record {
-  sound : IsSoundEngine l.engine;
-  together : Together l.engine.engine.flow.queues (known (g.D.PageDisk.log l.disk));
-  network : l.engine.network ≡ l.fn.engine.network;
-  later : IsLater (g.D.PageDisk.log l.fn.disk) (g.D.PageDisk.log l.disk);
-  goes : GoesOn (known (g.D.PageDisk.log l.fn.disk)) (known (g.D.PageDisk.log l.disk)) l.fn.engine l.engine l.fn.steps l.steps (g.S.Sink.written l.fn.out) [] (g.S.Sink.written l.out) l.held.text.items;
-  left : ShowsOn (known (g.D.PageDisk.log l.fn.disk)) (known (g.D.PageDisk.log l.disk)) l.fn.engine l.engine (g.S.Sink.written l.fn.out) [] (g.S.Sink.written l.out) l.held.text.items;
-  disk_faults : g.D.PageDisk.faults l.fn.disk ≤ g.D.PageDisk.faults l.disk;
-  sink_faults : g.S.Sink.faults l.fn.out ≤ g.S.Sink.faults l.out;
-}
+invariant-steps g l =
+    let a = run_state g.D.PageDisk l.fn.engine l.fn.disk l.fn.steps in
+    let b = run_state g.D.PageDisk l.engine l.disk l.steps in
+    record {
+      keeps : KeepsRun a b;
+      on : TurnsOn (g.A.Audience.shown l.fn.out l.audience l.out l.fn.engine.network) a b;
+      ready : g.A.Audience.ready l.audience l.fn.engine.network;
+      later : g.A.Audience.faults l.fn.out ≤ g.A.Audience.faults l.out;
+    }
 
 abbrev pub decreases-steps : goal.decreases-steps
 decreases-steps g l = measure_of l.engine.engine.flow

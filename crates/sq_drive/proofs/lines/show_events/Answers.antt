@@ -2,7 +2,7 @@ use Rattle.std.proofs.Common.{arith}
 use Rattle.sq_lines.specs.RunLines.{event_line}
 use Rattle.sq_lines.proofs.PairLemmas.{text-more}
 use Rattle.sq_drive.proofs.WritingLemmas.{lost_at, moves-then}
-use Rattle.sq_drive.proofs.driving.show_events.Goals as goal
+use Rattle.sq_drive.proofs.lines.show_events.Goals as goal
 
 pub returns-in-Err-clause-err : goal.returns-in-Err-clause-err
 returns-in-Err-clause-err g c =

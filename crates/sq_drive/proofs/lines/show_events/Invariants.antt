@@ -1,7 +1,7 @@
 use Rattle.std.proofs.Common.{◌≤◌, take}
 use Rattle.sq_drive.specs.Writing.{Moves}
 use Rattle.sq_drive.specs.Driving.{history_text}
-use Rattle.sq_drive.proofs.driving.show_events.Given as goal
+use Rattle.sq_drive.proofs.lines.show_events.Given as goal
 
 abbrev pub invariant-events : goal.invariant-events
 invariant-events g l = record {
