@@ -1,6 +1,6 @@
 -- How a run ends.
 use Rattle.std.proofs.Common.{◌≡◌, ◌≢◌, ◌⊎◌, inl, inr, ℕ, zero, suc, ◌+◌, ◌^◌, ◌<◌, ◌≤◌, Bool, true, false, not, ◌&&◌, List, [], ◌∷◌, ◌++◌, length, drop, refl, ap, sym, ◌∙◌, subst, arith, append_assoc, append-nil, length-append, Option, None, Some}
-use Rattle.std.specs.Prelude.{map, nat_lt, if◌then◌else◌, IsSome, codes}
+use Rattle.std.specs.Prelude.{map, nat_lt, if◌then◌else◌, IsSome, codes, Result, Ok, Err, IfOk, IfErr}
 use Rattle.std.specs.Fmt.{decimal}
 use Rattle.std.specs.List.{AllByRecursion, flat_map, list_all, list_any, range_with_len, zip}
 use Rattle.std.proofs.lemmas.Bool.Decides.{nat_tests}
@@ -11,7 +11,6 @@ use Rattle.sq_lines.specs.Classes.{Shown, Dropped, Planned, Ended, second_field}
 use Rattle.sq_lines.specs.LineTexts.{drop_line, line_of, needs_quotes, output_line, plan_line, late_line, end_line}
 use Rattle.sq_value.specs.Texts.{text_of}
 use Rattle.sq_lines.proofs.RowLemmas.{first_field-line_of, is_line-line_of}
-use Rattle.sq_outside.specs.Faults.{Rose}
 use Rattle.sq_outside.specs.Folders.{Files}
 use Rattle.sq_outside.specs.Sinks.{AppendsPrefix, appended, AppendsSuch}
 use Rattle.sq_net.specs.declared.Network.{Network}
@@ -36,23 +35,25 @@ use Rattle.sq_place.proofs.Final.{drops-few}
 use Rattle.sq_points.specs.Points.{points_of, windows_of, drops_in}
 use Rattle.sq_points.proofs.Bounds.{few_places}
 use Rattle.std.proofs.lemmas.Fmt.{decimal_nonempty}
-use Rattle.sq_drive.specs.Due.{Answer, Due, answer_in, due_in, due_of, ended_in, fed_in, late_counts, replayed, turns_in, work_in, dropped_from, plan_text, shown_at_output, due_from}
-use Rattle.sq_drive.specs.Answers.{IsPrefixText, IsWholeText}
+use Rattle.sq_drive.specs.Due.{Answer, Due, answer_in, due_in, due_of, ended_in, fed_in, late_counts, replayed, dropped_from, plan_text, shown_at_output, due_from}
+use Rattle.sq_drive.specs.Answers.{IsPrefixText}
 use Rattle.sq_gen.specs.Files.{made_of}
 use Rattle.sq_work.specs.Generation.{HasBadMade, NamesMade}
-use Rattle.sq_status.specs.Messages.{name_at, TellsStatus}
+use Rattle.sq_status.specs.Messages.{name_at, TellsStatus, source_told}
 use Rattle.sq_drive.specs.Summaries.{summary_of}
 use Rattle.sq_drive.specs.Driving.{IsCutShort}
-use Rattle.sq_command.specs.declared.RunArgs.{RunArgs}
 use Rattle.sq_work.specs.Scripts.{AcceptedReplay, Script, Reads, Done, Stops, after_words, made_script, script_of}
 use Rattle.sq_work.specs.FolderStates.{FolderState}
+use Rattle.sq_work.specs.declared.reading.Accepted.{Accepted}
+use Rattle.sq_work.specs.declared.reading.Stopped.{Stopped}
+use Rattle.sq_work.specs.AcceptedViews.{IsPrepared, replay_of}
+use Rattle.sq_top.specs.Running.{EndsEarly}
 use Rattle.sq_work.specs.Reads.{GoesBy, IfAccepted, ScriptLeads, network_read}
-use Rattle.sq_pool.specs.Trust.{Tells, known}
 use Rattle.sq_drive.specs.Stopping.{StopHasCause}
 use Rattle.sq_drive.specs.Failing.{IsOfRun}
 use Rattle.sq_top.specs.Ends.{DiskFails, DoesAll, DoesNothing, DoesPart, Ends, IsEngineOf, KnowsDisk, OutputFails}
 use Rattle.sq_top.specs.Outside.{Outside}
-use Rattle.sq_top.specs.Texts.{BeginsSummary, BeginsText, IsPrefixOfDue, IsWholeOf, turns_for, verdict_text, work_for}
+use Rattle.sq_top.specs.Texts.{BeginsText, IsPrefixOfDue, turns_for, verdict_text}
 use Rattle.sq_top.proofs.ReadsLemmas.{leads_self, left_holds}
 use Rattle.sq_work.proofs.StoppedLemmas.{memory_at, some_none, stopped_memory, stopped_rule}
 use Rattle.sq_top.proofs.StopLemmas.{refused_garbled, refused_stop, refused_unchanged}
@@ -218,7 +219,7 @@ pub appends_all : (before now : Option (List ℕ)) (text : List ℕ) (P : List �
 appends_all None now text P e p = e
 appends_all (Some before) now text P e p = (text, e, p)
 
-appends_map : (before now : Option (List ℕ)) (P Q : List ℕ → Type 0) → ((text : List ℕ) → P text → Q text) → AppendsSuch before now P → AppendsSuch before now Q
+pub appends_map : (before now : Option (List ℕ)) (P Q : List ℕ → Type 0) → ((text : List ℕ) → P text → Q text) → AppendsSuch before now P → AppendsSuch before now Q
 appends_map None now P Q f a = a
 appends_map (Some before) now P Q f a = (a.0, a.1, f a.0 a.2)
 
@@ -234,33 +235,6 @@ pub appends_begun : (whole : List ℕ) (before now : Option (List ℕ)) (s : Sta
 appends_begun whole None now s part alone = part.2
 appends_begun whole (Some before) now s part alone =
     (part.0, part.2, (part.1, λ other. nothing_more before part.0 (let both : Some (before ++ part.0) ≡ Some before = sym part.2 ∙ alone other in cc)))
-
--- the texts of a run
-pub whole_of_run : (c : Option Command) (args : RunArgs) (r : AcceptedReplay) (before now : Option (List ℕ)) → c ≡ Some (command.Run args)
-    → AppendsSuch before now (IsWholeText (due_of r)) → AppendsSuch before now (IsWholeOf c r)
-whole_of_run c args r before now e a = subst (λ o. AppendsSuch before now (IsWholeOf o r)) (sym e) a
-
-pub prefix_of_run : (c : Option Command) (args : RunArgs) (r : AcceptedReplay) (s : Status) (before now : Option (List ℕ)) → c ≡ Some (command.Run args)
-    → AppendsSuch before now (IsPrefixText (due_of r)) → AppendsSuch before now (IsPrefixOfDue c r s)
-prefix_of_run c args r s before now e a = subst (λ o. AppendsSuch before now (IsPrefixOfDue o r s)) (sym e) a
-
--- those of a tap
-pub whole_of_tap : (c : Option Command) (net stream : List ℕ) (tick history : ℕ) (query : List ℕ) (r : AcceptedReplay) (before now : Option (List ℕ)) → c ≡ Some (command.Tap net stream tick history query)
-    → AppendsSuch before now (IsWholeText (due_of r)) → AppendsSuch before now (IsWholeOf c r)
-whole_of_tap c net stream tick history query r before now e a = subst (λ o. AppendsSuch before now (IsWholeOf o r)) (sym e) a
-
-pub prefix_of_tap : (c : Option Command) (net stream : List ℕ) (tick history : ℕ) (query : List ℕ) (r : AcceptedReplay) (s : Status) (before now : Option (List ℕ))
-    → c ≡ Some (command.Tap net stream tick history query) → AppendsSuch before now (IsPrefixText (due_of r)) → AppendsSuch before now (IsPrefixOfDue c r s)
-prefix_of_tap c net stream tick history query r s before now e a = subst (λ o. AppendsSuch before now (IsPrefixOfDue o r s)) (sym e) a
-
--- and of what is made
-pub whole_of_made : (c : Option Command) (number rows : ℕ) (r : AcceptedReplay) (before now : Option (List ℕ)) → c ≡ Some (command.Gen number rows)
-    → AppendsSuch before now (λ text. text ≡ summary_of number rows (replayed r)) → AppendsSuch before now (IsWholeOf c r)
-whole_of_made c number rows r before now e a = subst (λ o. AppendsSuch before now (IsWholeOf o r)) (sym e) a
-
-pub prefix_of_made : (c : Option Command) (number rows : ℕ) (r : AcceptedReplay) (s : Status) (before now : Option (List ℕ)) → c ≡ Some (command.Gen number rows)
-    → AppendsSuch before now (BeginsSummary number rows (replayed r) s) → AppendsSuch before now (IsPrefixOfDue c r s)
-prefix_of_made c number rows r s before now e a = subst (λ o. AppendsSuch before now (IsPrefixOfDue o r s)) (sym e) a
 
 no_due : (c : Option Command) (r : AcceptedReplay) (s : Status) → TellsClasses (due_of r) → IsPrefixOfDue c r s []
 no_due None r s tells = no_text (due_of r) tells
@@ -370,9 +344,6 @@ stopped_ends words before after s source h still = record {
 
 module _ (words : List (List ℕ)) (before after : Outside) (r : AcceptedReplay) (source : List ℕ) (some : IsSome (command_in words))
     (came : ScriptLeads before.folder after.folder (script_of words) (Done r)) (faultless : after.folder.faults ≡ before.folder.faults) where
-  abbrev work : ℕ
-  work = work_for (command_in words) r
-
   abbrev turns : ℕ
   turns = turns_for (command_in words) r
 
@@ -421,51 +392,29 @@ module _ (words : List (List ℕ)) (before after : Outside) (r : AcceptedReplay)
   ends_ok s cut stop garbled much sound dry few = let no = cut.begun in absurd (cc)
 
   -- the answer is cut short
-  pub answered_cut : (s : Status) → IsCutShort before.output.faults after.output.faults s → StopHasCause (IsOfRun before.disk.log after.disk.log r s) before.disk.log after.disk.log before.disk.faults after.disk.faults s
-      → (before.disk.log.honest ≡ true → is_changed s ≡ false) → (KnowsDisk (command_in words) after → is_changed s ≡ true → is_garbled s ≡ true)
-      → (KnowsDisk (command_in words) after → s ≡ status.TooMuch → 2 ^ 62 ≤ turns) → (s ≡ status.DiskFault → runs_engine (command_in words) ≡ true)
-      → (KnowsDisk (command_in words) after → DoesPart (command_in words) r s before after) → Ends words before after s source
-  answered_cut s cut stop same garbled much runs first = record {
-    read = came.0;
-    given = came.2;
-    left = Done r;
-    goes = came.1;
-    ok = λ e. absurd (cut.no_end e);
-    other = λ e. first;
-    refused_early = λ e. let both : true ≡ false = sym e ∙ cut.begun in absurd (cc);
-    faulted = λ rose. absurd (omega (arith, rose, faultless));
-    usage = record { only = λ e. absurd (begun s status.Usage cut.begun refl e); when = λ e. absurd (some_none (command_in words) some e) };
-    refusal = cut.begun;
-    no_memory = not_hidden s cut.begun;
-    stopped = stop_map _ (IsEngineOf (Done r) before after s) _ _ _ _ _ _ _ _ s (λ rose. rose) (λ queues e back. back) (λ e is. is) stop;
-    unchanged = same;
-    garbled = garbled;
-    sink = cut.sink;
-    too_much = λ e pages. much pages e;
-    complete = λ sound dry pages few. ends_ok s cut stop (garbled pages) (much pages) (λ fault. sound (runs fault)) dry few;
-    named = names_none s cut.begun;
-  }
-
-  -- by what an engine did, where the command runs one
-  module _ (engine : runs_engine (command_in words) ≡ true) where
-    work_is : work_in (replayed r) ≡ work
-    work_is = sym (ap (λ (runs : Bool). if runs then work_in (replayed r) else 0) engine)
-
-    turns_are : turns_in (replayed r) ≡ turns
-    turns_are = sym (ap (λ (runs : Bool). if runs then turns_in (replayed r) else 0) engine)
-
-    pub driven_ok : (Tells (known after.disk.log) → AppendsSuch before.output.written after.output.written (IsWholeOf (command_in words) r) × (after.steps ≡ before.steps + work_in (replayed r)))
-        → Ends words before after status.Ok source
-    driven_ok whole = answered_ok
-        (λ told. let all = whole (told engine) in (all.0, subst (λ k. after.steps ≡ before.steps + k) work_is all.1))
-
-    pub driven_cut : (s : Status) → IsCutShort before.output.faults after.output.faults s → StopHasCause (IsOfRun before.disk.log after.disk.log r s) before.disk.log after.disk.log before.disk.faults after.disk.faults s
-        → (before.disk.log.honest ≡ true → is_changed s ≡ false) → (Tells (known after.disk.log) → is_changed s ≡ true → is_garbled s ≡ true) → (Tells (known after.disk.log) → s ≡ status.TooMuch → 2 ^ 62 ≤ turns_in (replayed r))
-        → (Tells (known after.disk.log) → AppendsSuch before.output.written after.output.written (IsPrefixOfDue (command_in words) r s) × (after.steps ≤ before.steps + work_in (replayed r)))
-        → Ends words before after s source
-    driven_cut s cut stop same garbled much first = answered_cut s cut stop same (λ told. garbled (told engine))
-        (λ told is. subst (λ k. 2 ^ 62 ≤ k) turns_are (much (told engine) is)) (λ fault. engine)
-        (λ told. let part = first (told engine) in (part.0, subst (λ k. after.steps ≤ before.steps + k) work_is part.1))
+  pub answered_cut : (s : Status) → EndsEarly (command_in words) r before after s → (s ≡ status.DiskFault → runs_engine (command_in words) ≡ true) → Ends words before after s source
+  answered_cut s early runs =
+      let cut = early.cut in
+      record {
+        read = came.0;
+        given = came.2;
+        left = Done r;
+        goes = came.1;
+        ok = λ e. absurd (cut.no_end e);
+        other = λ e. early.part;
+        refused_early = λ e. let both : true ≡ false = sym e ∙ cut.begun in absurd (cc);
+        faulted = λ rose. absurd (omega (arith, rose, faultless));
+        usage = record { only = λ e. absurd (begun s status.Usage cut.begun refl e); when = λ e. absurd (some_none (command_in words) some e) };
+        refusal = cut.begun;
+        no_memory = not_hidden s cut.begun;
+        stopped = stop_map _ (IsEngineOf (Done r) before after s) _ _ _ _ _ _ _ _ s (λ rose. rose) (λ queues e back. back) (λ e is. is) early.stopped;
+        unchanged = early.unchanged;
+        garbled = early.garbled;
+        sink = cut.sink;
+        too_much = λ e pages. early.too_much pages e;
+        complete = λ sound dry pages few. ends_ok s cut early.stopped (early.garbled pages) (early.too_much pages) (λ fault. sound (runs fault)) dry few;
+        named = names_none s cut.begun;
+      }
 
 -- any end but Ok and that of the sink may be one for want of memory
 pub memory_ends : (words : List (List ℕ)) (before after : Outside) (s : Status) (source other : List ℕ) → s ≢ status.Ok → s ≢ status.SinkFault → Ends words before after s source
@@ -502,13 +451,13 @@ module _ (words : List (List ℕ)) (number rows : ℕ) (asked : command_in words
   script_made : (x : Script) → made_script number (made_of number rows) ≡ x → script_of words ≡ x
   script_made x e = ap after_words asked ∙ e
 
-  pub is_made : IsSome (command_in words)
+  is_made : IsSome (command_in words)
   is_made = rw asked refl
 
-  pub accepted_made : (folder : FolderState) (r : AcceptedReplay) → made_script number (made_of number rows) ≡ Done r → ScriptLeads folder folder (script_of words) (Done r)
+  accepted_made : (folder : FolderState) (r : AcceptedReplay) → made_script number (made_of number rows) ≡ Done r → ScriptLeads folder folder (script_of words) (Done r)
   accepted_made folder r e = ([], script_made (Done r) e, none_given folder.read folder.read refl)
 
-  pub stopped_made : (folder : FolderState) (s : Status) (source : List ℕ) → HasBadMade number rows s source → IsStopped words folder folder s source
+  stopped_made : (folder : FolderState) (s : Status) (source : List ℕ) → HasBadMade number rows s source → IsStopped words folder folder s source
   stopped_made folder s source (inl memory) =
       subst (λ x. IsStopped words folder folder x source) (sym memory)
       (stopped_memory words folder folder source (script_of words) (leads_self folder (script_of words)))
@@ -518,3 +467,8 @@ module _ (words : List (List ℕ)) (number rows : ℕ) (asked : command_in words
       names : (s : Status) → NamesMade number rows s source → NamesSource words [] s source
       names (status.BadStream at line why) e = e ∙ sym (ap (λ c. name_at at (network_read c [])) asked)
       names s e = tt
+
+  pub prepared_made : (folder : FolderState) (p : Result Accepted Stopped) → IfOk p (λ a. made_script number (made_of number rows) ≡ Done (replay_of a))
+      → IfErr p (λ s. HasBadMade number rows s.status (source_told s.source)) → IsPrepared words folder folder p
+  prepared_made folder (Ok a) made bad = accepted_made folder (replay_of a) made
+  prepared_made folder (Err s) made bad = stopped_made folder s.status (source_told s.source) bad

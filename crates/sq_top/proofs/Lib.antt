@@ -6,6 +6,7 @@ pub mod HistoryLemmas
 pub mod RestLemmas
 pub mod ReplayLemmas
 pub mod ReadsLemmas
+pub mod RunningLemmas
 pub mod StopLemmas
 pub mod SourceLemmas
 pub mod TrainLemmas

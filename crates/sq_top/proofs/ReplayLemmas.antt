@@ -67,7 +67,7 @@ module _ (r : Replay) (first : ℕ) (sound : IsSound r.network) where
   pub replay_halts : (honest : Bool) (s : Status) (before now : Option (List ℕ)) (begun steps : ℕ) → IsHalted honest r [] s before now begun steps → AppendsSuch before now (IsPrefixText due)
   replay_halts honest s before now begun steps halted =
       let part = halted.written in
-      appends_all before now part.0 (IsPrefixText due) part.2 (prefix_due halted.events halted.shown halted.first part.0 part.1)
+      appends_all before now part.0 (IsPrefixText due) part.2 (prefix_due halted.events halted.shown halted.stopped.first part.0 part.1)
 
   module _ (engine : Engine) (same : engine.network ≡ r.network) (before mid : Option (List ℕ)) (begun steps : ℕ) (driven : IsDriven r [] engine before mid begun steps) where
     ends_are : ends_text first engine ≡ lines_text due.ended

@@ -3,3 +3,4 @@ pub mod ToldFolders
 pub mod Outside
 pub mod Texts
 pub mod Ends
+pub mod Running

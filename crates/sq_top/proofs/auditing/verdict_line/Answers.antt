@@ -21,5 +21,5 @@ audit_text-requires-clause-streams c =
 
 pub returns : goal.returns
 returns c =
-    let said = rw (c.as_slice.ensures.value, c.in_ok-sources.ensures) at c.in_ok-verdict.ensures in
+    let said = rw (c.as_slice.ensures.value, c.as_slice-2.ensures.value, c.in_ok-sources.ensures) at c.in_ok-verdict.ensures in
     c.in_ok-append_verdict_line.ensures.ok ∙ ap (λ xs. xs ++ verdict_line c.in_ok-verdict.verdict) c.new-line.ensures.items ∙ ap verdict_line said
