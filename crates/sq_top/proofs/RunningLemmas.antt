@@ -30,7 +30,7 @@ use Rattle.sq_top.specs.declared.running.Report.{Report}
 use Rattle.sq_top.specs.declared.running.Report.TheVariants as report
 use Rattle.sq_top.specs.Ends.{DoesAll, DoesPart, KnowsDisk}
 use Rattle.sq_top.specs.Outside.{DiskState, Outside, SinkState, outside}
-use Rattle.sq_top.specs.Running.{EndsEarly, IsReportedBy}
+use Rattle.sq_top.specs.Running.{EndsEarly, IsReportedBy, WhoeverAsks}
 use Rattle.sq_top.specs.Texts.{BeginsSummary, IsPrefixOfDue, IsWholeOf, turns_for, work_for}
 use Rattle.sq_top.proofs.EndLemmas.{appends_map}
 use Rattle.sq_top.proofs.ReplayLemmas.{replay_waits}
@@ -142,9 +142,7 @@ part_waits (report.Summary number rows) r sound before s = summary_waits number 
 
 -- a run that ends early, whichever command asks for it, and whatever stands beside it
 abbrev pub EarlyFor : Report → AcceptedReplay → DiskState → DiskState → SinkState → SinkState → ℕ → ℕ → Status → Type 0
-EarlyFor told r disk disk' out out' steps steps' s =
-    (c : Option Command) (folder folder' : FolderState) (messages messages' : SinkState) → IsReportedBy told c
-    → EndsEarly c r (outside folder disk out messages steps) (outside folder' disk' out' messages' steps') s
+EarlyFor told r disk disk' out out' steps steps' s = WhoeverAsks told disk disk' out out' steps steps' (λ c before after. EndsEarly c r before after s)
 
 -- it is no refusal
 pub never_refused : (told : Report) (r : AcceptedReplay) (disk disk' : DiskState) (out out' : SinkState) (steps steps' : ℕ) (s : Status) → EarlyFor told r disk disk' out out' steps steps' s

@@ -6,12 +6,11 @@ ghost use Rattle.sq_words.specs.Lists.{IsPrefixOf};
 ghost use Rattle.sq_outside.specs.Disks.{Pages};
 ghost use Rattle.sq_pool.specs.Trust.{IsLater};
 ghost use Rattle.sq_core.specs.Runs.{IsRun, IsSoundEngine};
-ghost use Rattle.sq_command.specs.declared.Command.{Command};
 ghost use Rattle.sq_command.specs.Commands.{command_in, reads_folder, runs_engine};
 ghost use Rattle.sq_top.specs.Ends.{DoesAll, Ends, KnowsDisk};
 ghost use Rattle.sq_work.specs.FolderStates.{FolderState, folder_state};
 ghost use Rattle.sq_top.specs.Outside.{SinkState, disk_state, outside, sink_state};
-ghost use Rattle.sq_top.specs.Running.{EndsEarly, IsReportedBy};
+ghost use Rattle.sq_top.specs.Running.{EndsEarly, IsReportedBy, WhoeverAsks};
 ghost use Rattle.sq_queue.specs.Faces as faces;
 ghost use Rattle.sq_sched.specs.Policies.{seed_words};
 ghost use Rattle.sq_drive.specs.Due.{replayed};
@@ -77,14 +76,10 @@ fn run_accepted<D: PageDisk, S: Sink, L: Ledger>(
     steps: &mut Steps<L>,
 ) -> Result<(), Status>
     requires { CanRun accepted }
-    ensures ok { OnOk result ((c : Option Command) (folder folder' : FolderState) (messages messages' : SinkState) → IsReportedBy report c
-        → KnowsDisk c (outside folder' (disk_state D.PageDisk disk.new) (sink_state S.Sink out.new) messages' steps.new) → DoesAll c (replay_of accepted)
-        (outside folder (disk_state D.PageDisk disk.old) (sink_state S.Sink out.old) messages steps.old)
-        (outside folder' (disk_state D.PageDisk disk.new) (sink_state S.Sink out.new) messages' steps.new)) }
-    ensures cut { IfErr result (λ s. (c : Option Command) (folder folder' : FolderState) (messages messages' : SinkState) → IsReportedBy report c
-        → EndsEarly c (replay_of accepted)
-        (outside folder (disk_state D.PageDisk disk.old) (sink_state S.Sink out.old) messages steps.old)
-        (outside folder' (disk_state D.PageDisk disk.new) (sink_state S.Sink out.new) messages' steps.new) s) }
+    ensures ok { OnOk result (WhoeverAsks report (disk_state D.PageDisk disk.old) (disk_state D.PageDisk disk.new)
+        (sink_state S.Sink out.old) (sink_state S.Sink out.new) steps.old steps.new (λ c before after. KnowsDisk c after → DoesAll c (replay_of accepted) before after)) }
+    ensures cut { IfErr result (λ s. WhoeverAsks report (disk_state D.PageDisk disk.old) (disk_state D.PageDisk disk.new)
+        (sink_state S.Sink out.old) (sink_state S.Sink out.new) steps.old steps.new (λ c before after. EndsEarly c (replay_of accepted) before after s)) }
     ensures later { IsLater (D.log disk.old) (D.log disk.new) }
     ensures faults { (D.faults disk.old ≤ D.faults disk.new) × (S.faults out.old ≤ S.faults out.new) }
 {
