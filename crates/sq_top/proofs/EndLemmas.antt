@@ -218,7 +218,7 @@ pub appends_all : (before now : Option (List ℕ)) (text : List ℕ) (P : List �
 appends_all None now text P e p = e
 appends_all (Some before) now text P e p = (text, e, p)
 
-appends_map : (before now : Option (List ℕ)) (P Q : List ℕ → Type 0) → ((text : List ℕ) → P text → Q text) → AppendsSuch before now P → AppendsSuch before now Q
+pub appends_map : (before now : Option (List ℕ)) (P Q : List ℕ → Type 0) → ((text : List ℕ) → P text → Q text) → AppendsSuch before now P → AppendsSuch before now Q
 appends_map None now P Q f a = a
 appends_map (Some before) now P Q f a = (a.0, a.1, f a.0 a.2)
 

@@ -3,3 +3,5 @@ pub mod ToldFolders
 pub mod Outside
 pub mod Texts
 pub mod Ends
+pub mod Headline
+pub mod HeadlineLaw
