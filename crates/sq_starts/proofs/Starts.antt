@@ -188,7 +188,9 @@ module _ (n : Network) (sources : List (List Tuple)) (sound : HasRanks n) where
         some = some-item (is_reached n.wires (windows_of n) place) arcs bel.some
 
         some-input : 1 ≤ length (inputs_of n.wires bel.at)
-        some-input = let many = length-map-range_with_len (arc_at n.wires bel.at) 0 (length (inputs_of n.wires bel.at)) in let s = some in omega (arith, many, s)
+        some-input =
+            let many : length arcs ≡ length (inputs_of n.wires bel.at) = length-map-range_with_len (arc_at n.wires bel.at) 0 (length (inputs_of n.wires bel.at)) in
+            let s : 1 ≤ length arcs = some in omega (arith, many, s)
 
         first-is : nth (map (full_arc n sources) arcs) 0 ≡ full_arc n sources (arc_at n.wires bel.at 0)
         first-is = first-list (full_arc n sources) (arc_at n.wires bel.at) (length (inputs_of n.wires bel.at)) some-input

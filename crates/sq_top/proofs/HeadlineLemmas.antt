@@ -55,7 +55,8 @@ under_name a (x ∷ os) (s ∷ ss) (suc o) out even at =
 
 number_of : (many o : ℕ) → o < many → slice_get (numbers_to many) o ≡ Some o
 number_of many o low =
-    let x = has_item (numbers_to many) o (let count = length-range_with_len 0 many in omega (arith, count, low)) in
+    let count : length (numbers_to many) ≡ many = length-range_with_len 0 many in
+    let x = has_item (numbers_to many) o (omega (arith, count, low)) in
     x.1 ∙ ap Some (number_at many o x.0 x.1)
 
 module _ (r : AcceptedReplay) (sound : IsSound r.network) (text : List ℕ) (whole : IsWholeText (due_of r) text) where
