@@ -1,5 +1,5 @@
 -- The times of an output below a drop are starts of windows: by induction along the boxes.
-use Rattle.std.proofs.Common.{◌≡◌, ◌≢◌, ◌⊎◌, inl, inr, ℕ, zero, suc, ◌+◌, ◌≤◌, ◌<◌, eqb, leb, ltb, Bool, true, false, cond, not, ◌&&◌, ◌||◌, List, [], ◌∷◌, map, length, Option, Some, None, refl, ap, sym, ◌∙◌, subst, arith}
+use Rattle.std.proofs.Common.{◌≡◌, ◌≢◌, ◌⊎◌, inl, inr, ℕ, zero, suc, ◌+◌, ◌≤◌, ◌<◌, eqb, leb, ltb, Bool, true, false, cond, not, ◌&&◌, List, [], ◌∷◌, map, length, Option, Some, None, refl, ap, sym, ◌∙◌, subst, arith}
 use Rattle.std.specs.Prelude.{slice_get, is_some}
 use Rattle.std.specs.Option.{option_map}
 use Rattle.std.specs.List.{flat_map, list_any, list_all, AllByRecursion}
@@ -10,7 +10,7 @@ use Rattle.std.proofs.lemmas.List.FromFn.{length-map-range_with_len}
 use Rattle.sq_value.specs.declared.Tuple.{Tuple}
 use Rattle.sq_words.specs.Lists.{contains_number, nth, numbers_to}
 use Rattle.sq_words.proofs.Alls.{all_weaker}
-use Rattle.sq_words.proofs.Bools.{and_first, and_second}
+use Rattle.sq_words.proofs.Bools.{and_second}
 use Rattle.sq_words.proofs.Lists.{contains_filter}
 use Rattle.sq_aggfn.specs.declared.WindowSpec.{WindowSpec}
 use Rattle.sq_aggfn.specs.Windows.{start_of}
@@ -35,7 +35,7 @@ use Rattle.sq_net.specs.SoundNetworks.{IsSound}
 use Rattle.sq_points.specs.Points.{points_of, window_in, windows_of}
 use Rattle.sq_model.specs.FullStreams.{box_list, box_list_at, full_arc}
 use Rattle.sq_model.specs.Shedding.{Replay}
-use Rattle.sq_below.proofs.Apart.{DropPlace, place-of}
+use Rattle.sq_below.proofs.Apart.{place-of}
 use Rattle.sq_below.proofs.ArcWords.{AllTimes}
 use Rattle.sq_below.proofs.BoxSteps.{box-times, no-marks}
 use Rattle.sq_below.proofs.Carries.{Somewhere-left, Somewhere-right, Within, any-within, node-there}
