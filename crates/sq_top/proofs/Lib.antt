@@ -14,3 +14,5 @@ pub mod SummaryLemmas
 pub mod AuditLemmas
 pub mod PartLemmas
 pub mod ClassLemmas
+pub mod HeadlineLemmas
+mod Rows

@@ -4,3 +4,5 @@ pub mod Outside
 pub mod Texts
 pub mod Ends
 pub mod Running
+pub mod Headline
+pub mod HeadlineLaw

@@ -22,7 +22,7 @@ mod auditing;
 mod laws;
 mod running;
 
-pub use laws::{folders_have_causes, taps_show_parts, told_files_decide};
+pub use laws::{folders_have_causes, runs_keep_the_headline, taps_show_parts, told_files_decide};
 use running::{run, tell};
 pub use sq_command::{Command, RunArgs, WordsErr, read_words};
 pub use sq_drive::drive;
