@@ -133,7 +133,7 @@ impl Feeds for MemFeeds {
         requires room { 0 < length into.old }
         ensures count { IfOk result (λ n. IsSomeAnd (file self.old.files (feed_at self.old.logs feed).name)
             (λ bytes. n ≡ min (cut_to self.old.cuts (length into.old))
-                (length bytes - length (text_read (feed_at self.old.logs feed))))) }
+            (length bytes - length (text_read (feed_at self.old.logs feed))))) }
         ensures within { IfOk result (λ n. n ≤ length into.new) }
         ensures ok { IfOk result (λ n. self.new ≡ record self.old {
           logs = after_read self.old.logs feed (take n into.new);

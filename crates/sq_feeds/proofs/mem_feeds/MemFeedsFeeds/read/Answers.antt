@@ -16,7 +16,7 @@ returns-clause-ok c =
     let within : c.args.feed < length feeds = omega (arith, going.0, length-map feeds feed_log_of) in
     rw (← c.self.view_is) (
     view_read (files_of c.self.inside.files.items) feeds c.args.feed c.index_mut.result.now c.read_feed.new.feed _ c.self.inside.cuts.items c.next_cut-most.new.cuts.items c.self.inside.calls c.call_fails.new.self within
-    c.index_mut.ensures.value c.read_feed.ensures.told c.next_cut-most.ensures.rest c.call_fails.ensures.called
+    c.index_mut.ensures.value c.read_feed.ensures.told c.next_cut-most.ensures.rest (rw c.if-call_fails.false at c.call_fails.ensures.called)
     )
 
 pub returns-clause-whole : goal.returns-clause-whole
