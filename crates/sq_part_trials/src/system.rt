@@ -70,11 +70,23 @@ fn a_feed_is_read_in_pieces_up_to_its_end(rt: HostRuntime) -> Result<(), Fail> {
     fs::write(&rt, "aurora_feed_test.txt", "12345")?;
     let mut feeds = OpenFeeds::new(alloc, &rt);
     let (mut first, mut second) = ([0; 3], [0; 8]);
-    let counts = two_reads(alloc, &mut feeds, "aurora_feed_test.txt", &mut first, &mut second);
+    let counts = two_reads(
+        alloc,
+        &mut feeds,
+        "aurora_feed_test.txt",
+        &mut first,
+        &mut second,
+    );
     assert!(rt; counts == Some((3, 2)) && feeds.faults == 0);
     assert!(rt; (first[2], second[0], second[1], second[2]) == (b'3', b'4', b'5', 0));
     let mut feeds = OpenFeeds::new(alloc, &rt);
-    let ended = two_reads(alloc, &mut feeds, "aurora_feed_test.txt", &mut second, &mut first);
+    let ended = two_reads(
+        alloc,
+        &mut feeds,
+        "aurora_feed_test.txt",
+        &mut second,
+        &mut first,
+    );
     let removed = fs::remove_file(&rt, "aurora_feed_test.txt").is_ok();
     let gone = feeds.open(alloc, "aurora_feed_test.txt");
     assert!(rt; removed && ended == Some((5, 0)));
