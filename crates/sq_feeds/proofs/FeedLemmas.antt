@@ -3,10 +3,10 @@ use Rattle.std.proofs.Common.{zero, suc, ◌≡◌, ◌<◌, ◌++◌, ◌∷◌
 use Rattle.std.specs.Prelude.{Result, Ok, Err, if◌then◌else◌}
 use Rattle.std.specs.Result.{is_ok}
 use Rattle.std.specs.List.{AllByRecursion, flat_map}
-use Rattle.std.proofs.lemmas.List.{map-set, length-set, get_or-set_same, flat_map_more}
+use Rattle.std.proofs.lemmas.List.{map-set, flat_map_more}
 use Rattle.std.proofs.Math.Seq.{map-set_same}
 use Rattle.sq_words.proofs.Alls.{all_push}
-use Rattle.sq_feeds.specs.Feeds.{FeedLog, IsGoing, after_read, feed_at, text_read, with_read}
+use Rattle.sq_feeds.specs.Feeds.{FeedLog, after_read, feed_at, text_read, with_read}
 
 feed-map : {X : Type 0} (of : X → FeedLog) (feeds : List X) (i : ℕ) (d : X) → i < length feeds → feed_at (map of feeds) i ≡ of (get_or feeds i d)
 feed-map of [] i d within = absurd (omega arith)
@@ -25,11 +25,6 @@ feed_same of feeds i f g is same = map-set_same of feeds i g f (same ∙ ap of i
 
 pub text_more : (log : FeedLog) (piece : List ℕ) → flat_map (λ p. p) (log.pieces ++ piece ∷ []) ≡ text_read log ++ piece
 text_more log piece = sym (flat_map_more (λ p. p) [] log.pieces piece)
-
--- a feed that gave bytes goes on
-pub goes_on : (feeds : List FeedLog) (i : ℕ) (piece : List ℕ) → 0 < length piece → IsGoing feeds i → IsGoing (after_read feeds i piece) i
-goes_on feeds i [] some going = absurd (omega arith)
-goes_on feeds i (b ∷ bs) some going = (omega (arith, length-set {A = FeedLog}, going.0), ap (λ (log : FeedLog). log.ended) (get_or-set_same feeds i _ _ going.0) ∙ going.1)
 
 -- what holds of all feeds holds of them after a change of one, and with one more behind them
 pub all_set : {X : Type 0} (P : X → Type 0) (feeds : List X) (i : ℕ) (f g : X) → AllByRecursion P feeds → i < length feeds → f ≡ get_or feeds i f → (P f → P g)

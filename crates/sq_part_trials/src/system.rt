@@ -64,31 +64,21 @@ fn a_file_is_read_up_to_the_limit(rt: HostRuntime) -> Result<(), Fail> {
     Ok(())
 }
 
+const FEED: &str = "aurora_feed_test.txt";
+
 #[test]
 fn a_feed_is_read_in_pieces_up_to_its_end(rt: HostRuntime) -> Result<(), Fail> {
     let alloc = rt.alloc();
-    fs::write(&rt, "aurora_feed_test.txt", "12345")?;
+    fs::write(&rt, FEED, "12345")?;
     let mut feeds = OpenFeeds::new(alloc, &rt);
     let (mut first, mut second) = ([0; 3], [0; 8]);
-    let counts = two_reads(
-        alloc,
-        &mut feeds,
-        "aurora_feed_test.txt",
-        &mut first,
-        &mut second,
-    );
+    let counts = two_reads(alloc, &mut feeds, FEED, &mut first, &mut second);
     assert!(rt; counts == Some((3, 2)) && feeds.faults == 0);
     assert!(rt; (first[2], second[0], second[1], second[2]) == (b'3', b'4', b'5', 0));
     let mut feeds = OpenFeeds::new(alloc, &rt);
-    let ended = two_reads(
-        alloc,
-        &mut feeds,
-        "aurora_feed_test.txt",
-        &mut second,
-        &mut first,
-    );
-    let removed = fs::remove_file(&rt, "aurora_feed_test.txt").is_ok();
-    let gone = feeds.open(alloc, "aurora_feed_test.txt");
+    let ended = two_reads(alloc, &mut feeds, FEED, &mut second, &mut first);
+    let removed = fs::remove_file(&rt, FEED).is_ok();
+    let gone = feeds.open(alloc, FEED);
     assert!(rt; removed && ended == Some((5, 0)));
     assert!(rt; gone == Err(FeedErr::Failed) && feeds.faults == 1);
     Ok(())
