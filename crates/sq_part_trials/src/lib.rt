@@ -14,6 +14,8 @@ mod expr;
 #[cfg(test)]
 mod feeding;
 #[cfg(test)]
+mod feeds;
+#[cfg(test)]
 mod lines;
 #[cfg(test)]
 mod link;

@@ -1,5 +1,7 @@
+use crate::feeds::two_reads;
+use sq_feeds::{FeedErr, Feeds};
 use sq_outside::{Failed, Folder, FolderErr, PAGE, PageDisk, Sink};
-use sq_system::{NamelessFile, OpenFolder, Out, SpillFile};
+use sq_system::{NamelessFile, OpenFeeds, OpenFolder, Out, SpillFile};
 use std::alloc::Global;
 use std::io::Write;
 use std::test::Fail;
@@ -59,6 +61,26 @@ fn a_file_is_read_up_to_the_limit(rt: HostRuntime) -> Result<(), Fail> {
     assert!(rt; removed && whole == Ok(true));
     assert!(rt; (over, gone) == (Err(FolderErr::TooLong), Err(FolderErr::Failed)));
     assert!(rt; (folder.taken, folder.faults) == (8, 1));
+    Ok(())
+}
+
+const FEED: &str = "aurora_feed_test.txt";
+
+#[test]
+fn a_feed_is_read_in_pieces_up_to_its_end(rt: HostRuntime) -> Result<(), Fail> {
+    let alloc = rt.alloc();
+    fs::write(&rt, FEED, "12345")?;
+    let mut feeds = OpenFeeds::new(alloc, &rt);
+    let (mut first, mut second) = ([0; 3], [0; 8]);
+    let counts = two_reads(alloc, &mut feeds, FEED, &mut first, &mut second);
+    assert!(rt; counts == Some((3, 2)) && feeds.faults == 0);
+    assert!(rt; (first[2], second[0], second[1], second[2]) == (b'3', b'4', b'5', 0));
+    let mut feeds = OpenFeeds::new(alloc, &rt);
+    let ended = two_reads(alloc, &mut feeds, FEED, &mut second, &mut first);
+    let removed = fs::remove_file(&rt, FEED).is_ok();
+    let gone = feeds.open(alloc, FEED);
+    assert!(rt; removed && ended == Some((5, 0)));
+    assert!(rt; gone == Err(FeedErr::Failed) && feeds.faults == 1);
     Ok(())
 }
 

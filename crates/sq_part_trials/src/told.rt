@@ -4,8 +4,9 @@ ghost use Rattle.std.specs.Prelude.{◌≡◌, ◌+◌, ◌≤◌, ◌∷◌, []
 ghost use Rattle.std.specs.List.{splice};
 ghost use Rattle.std.specs.FinMap.{from_entries};
 
+use crate::feeds::two_reads;
 use sq_outside::{Failed, Folder, FolderErr, PAGE, PageDisk};
-use sq_system::{ByteFile, OpenFolder, Opens, SpillFile};
+use sq_system::{ByteFile, OpenFeeds, OpenFolder, Opens, SpillFile};
 use std::io;
 use std::io::ErrorKind;
 use std::test::Fail;
@@ -87,6 +88,19 @@ fn a_told_file_is_read_whole(rt: HostRuntime) -> Result<(), Fail> {
     };
     assert!(rt; bytes.as_slice() == b"123456789".as_slice());
     Ok(())
+}
+
+#[test]
+fn a_told_file_is_read_in_pieces(rt: HostRuntime) {
+    let one = OneFile {
+        name: "a",
+        bytes: b"123456789",
+    };
+    let mut feeds = OpenFeeds::new(rt.alloc(), &one);
+    let (mut first, mut second) = ([0; 4], [0; 8]);
+    let counts = two_reads(rt.alloc(), &mut feeds, "a", &mut first, &mut second);
+    assert!(rt; counts == Some((4, 5)));
+    assert!(rt; (first[3], second[0], second[4], second[5]) == (b'4', b'5', b'9', 0));
 }
 
 #[test]

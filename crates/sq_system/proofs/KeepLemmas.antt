@@ -1,7 +1,7 @@
 -- Pages that stand in a file, after a write to it and a change of what is listed.
-use Rattle.std.proofs.Common.{◌≡◌, ◌≢◌, ◌⊎◌, inl, inr, ℕ, ◌+◌, ◌*◌, ◌≤◌, ◌<◌, List, Bool, true, false, cond, Option, None, Some, length, nat_eq, refl, sym, subst, ◌∙◌, ap, rules, arith}
-use Rattle.std.specs.Prelude.{IfSome, ◌==◌, take, drop}
-use Rattle.std.specs.Ordering.{nat_cmp, eq_by_cmp}
+use Rattle.std.proofs.Common.{◌≡◌, ◌≢◌, ℕ, ◌*◌, List, Bool, true, false, cond, Option, None, Some, length, refl, sym, subst, rules, arith}
+use Rattle.std.specs.Prelude.{IfSome, ◌==◌}
+use Rattle.std.specs.Ordering.{nat_cmp}
 use Rattle.std.specs.Cmp.{nat_cmp_total, unsigned_tied}
 use Rattle.std.specs.FinMap as map
 use Rattle.sq_outside.specs.declared.TheConstants.{PAGE}

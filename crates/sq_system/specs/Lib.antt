@@ -1,2 +1,3 @@
 pub mod ByteFiles
 pub mod Spills
+pub mod OpenFeeds

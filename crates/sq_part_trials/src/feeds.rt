@@ -1,0 +1,59 @@
+ghost use Rattle.std.specs.Prelude.{◌≡◌, ◌<◌, [], length, IfOk};
+
+use sq_feeds::{Feeds, MemFeeds};
+use std::alloc::{AllocError, Global};
+use std::test::Fail;
+
+// How many bytes two reads give of the first feed that is opened, where the first of them gives some.
+pub(crate) fn two_reads<F: Feeds>(
+    alloc: Global,
+    feeds: &mut F,
+    name: &str,
+    first: &mut [u8],
+    second: &mut [u8],
+) -> Option<(usize, usize)>
+    requires new { F.logs feeds.old ≡ [] }
+    requires room { 0 < length first.old }
+    requires more { 0 < length second.old }
+{
+    feeds.open(alloc, name).ok()?;
+    let count = feeds.read(0, first).ok()?;
+    if count == 0 {
+        return None;
+    }
+    let rest = feeds.read(0, second).ok()?;
+    Some((count, rest))
+}
+
+// Feeds of one file, of which the first read gives two bytes. The calls of these numbers fail.
+fn cut_feeds(alloc: Global, fails: &[u64]) -> Result<MemFeeds, AllocError>
+    ensures { IfOk result (λ feeds. feeds.logs ≡ []) }
+{
+    let mut files = Vec::new(alloc);
+    let name = String::from_str(alloc, "a")?;
+    files.push((name, Vec::from_slice(alloc, b"12345")?))?;
+    let cuts = Vec::from_slice(alloc, &[2])?;
+    let fails = Vec::from_slice(alloc, fails)?;
+    Ok(MemFeeds::new(alloc, files, cuts, fails))
+}
+
+#[test]
+fn a_feed_in_memory_is_cut_and_fails_where_it_is_to(rt: HostRuntime) -> Result<(), Fail> {
+    let alloc = rt.alloc();
+    let rows: [(&[u64], &str, Option<(usize, usize)>); 5] = [
+        (&[], "a", Some((2, 3))),
+        (&[], "b", None),
+        (&[0], "a", None),
+        (&[1], "a", None),
+        (&[2], "a", None),
+    ];
+    for (fails, name, counts) in &rows {
+        let mut feeds = cut_feeds(alloc, fails)?;
+        let (mut first, mut second) = ([0; 8], [0; 8]);
+        let told = two_reads(alloc, &mut feeds, name, &mut first, &mut second);
+        assert!(rt; told == *counts);
+        let ends = (first[0], first[2], second[0], second[2]);
+        assert!(rt; told.is_none() || ends == (b'1', 0, b'3', b'5'));
+    }
+    Ok(())
+}
