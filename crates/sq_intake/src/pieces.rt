@@ -1,0 +1,64 @@
+// A stream that comes in pieces, read to its end.
+ghost use Rattle.std.specs.Prelude.{◌≡◌, [], List, ℕ, IfErr, None, OnOk};
+ghost use Rattle.std.specs.List.{flat_map};
+ghost use Rattle.sq_csv.specs.Cuts.{Lacks};
+ghost use Rattle.sq_lines.specs.Classes.{last_piece};
+ghost use Rattle.sq_replay.specs.FileLines.{pieces_of};
+ghost use Rattle.sq_intake.specs.Incoming.{MovesBy, told, told_in};
+ghost use Rattle.sq_intake.specs.Intakes.{IsHaltedBy, IsToldUpTo};
+
+use crate::{Intake, IntakeErr};
+use sq_value::{Schema, Tuple};
+use std::alloc::Global;
+
+/// So many tuples are made before the first of them is taken.
+const BATCH: usize = 7;
+
+/// Puts the tuples of all whole lines behind others.
+fn read_all(intake: &mut Intake, tuples: &mut Vec<Tuple>) -> Result<(), IntakeErr>
+    ensures moves { OnOk result (MovesBy intake.old intake.new [] tuples.old.items tuples.new.items) }
+    ensures rest { OnOk result (intake.new.text ≡ last_piece (pieces_of intake.old.text)) }
+    ensures lacks { OnOk result (Lacks 10 intake.new.text) }
+    ensures halts { IfErr result (λ e. IsHaltedBy e intake.old tuples.old.items tuples.new.items) }
+{
+    'batches: for _ in 0..u64::MAX {
+        let most = tuples.len().saturating_add(BATCH);
+        match intake.read(most, tuples) {
+            Ok(true) => return Ok(()),
+            Ok(false) => {}
+            Err(e) => return Err(e),
+        }
+    }
+    Err(IntakeErr::TooMany)
+}
+
+/// The tuples of a stream that comes in these pieces, up to its first bad line: whatever the cuts, they are those of the text
+/// that the pieces are together.
+pub fn read_pieces(
+    alloc: Global,
+    schema: &Schema,
+    pieces: &[Vec<u8>],
+    tuples: &mut Vec<Tuple>,
+) -> Result<(), IntakeErr>
+    requires { tuples.old.items ≡ [] }
+    ensures told { OnOk result (told_in schema.now (flat_map (λ piece. piece.items) pieces.now) ≡ told tuples.new.items None) }
+    ensures bad { IfErr result (λ e. IsToldUpTo e (told_in schema.now (flat_map (λ piece. piece.items) pieces.now)) tuples.new.items) }
+{
+    let Ok(mut intake) = Intake::new(alloc, schema) else {
+        return Err(IntakeErr::Memory);
+    };
+    for piece in pieces {
+        match intake.give(piece) {
+            Ok(()) => {}
+            Err(e) => return Err(e),
+        }
+        match read_all(&mut intake, tuples) {
+            Ok(()) => {}
+            Err(e) => return Err(e),
+        }
+    }
+    match intake.give(b"\n") {
+        Ok(()) => read_all(&mut intake, tuples),
+        Err(e) => Err(e),
+    }
+}
