@@ -1,11 +1,10 @@
 -- Pieces that are cut anywhere, and whole lines of them.
-use Rattle.std.proofs.Common.{zero, suc, ◌≡◌, refl, sym, ap, subst, ◌∙◌, ℕ, ◌+◌, ◌-◌, ◌<◌, ◌≤◌, ◌==◌, Bool, true, false, arith, inl, inr}
-use Rattle.std.proofs.Common.{List, [], ◌∷◌, ◌++◌, length, drop, take, get_or, Ok, Err, None, Some, append_assoc}
-use Rattle.std.specs.Prelude.{Option, Result, not, ◌&&◌, if◌then◌else◌, IfErr, OnOk}
+use Rattle.std.proofs.Common.{zero, suc, ◌≡◌, refl, sym, ap, subst, ◌∙◌, ℕ, ◌+◌, ◌-◌, ◌<◌, ◌≤◌, ◌==◌, Bool, true, arith, inl, inr}
+use Rattle.std.proofs.Common.{List, [], ◌∷◌, ◌++◌, length, drop, take, get_or, Ok, Err, append_assoc}
+use Rattle.std.specs.Prelude.{Option, Result, not, ◌&&◌, IfErr, OnOk}
 use Rattle.std.specs.Result.{is_ok}
 use Rattle.std.specs.List.{list_all}
 use Rattle.std.proofs.lemmas.Bool.{cases_Bool}
-use Rattle.std.proofs.lemmas.Bool.Decides.{nat_tests}
 use Rattle.std.proofs.lemmas.List.{append-nil, drop_all, length-append, length-take, take-append-drop}
 use Rattle.std.proofs.lemmas.List.Folds.{list_all-append}
 use Rattle.sq_value.specs.declared.Kind.{Kind}
@@ -14,7 +13,7 @@ use Rattle.sq_csv.specs.Cuts.{Lacks}
 use Rattle.sq_lines.specs.Classes.{all_but_last, last_piece}
 use Rattle.sq_replay.specs.declared.why.Why.{Why}
 use Rattle.sq_replay.specs.FileLines.{pieces_of}
-use Rattle.sq_intake.specs.Incoming.{Halts, MovesBy, Told, and_told, bare_line, brings, incoming, told, told_from, told_behind}
+use Rattle.sq_intake.specs.Incoming.{MovesBy, Told, and_told, bare_line, brings, incoming, told_from, told_behind}
 use Rattle.sq_intake.proofs.IncomingLemmas.{whole_drop, whole_pieces}
 use Rattle.sq_words.proofs.Bools.{and_true, not_true}
 use Rattle.sq_words.proofs.Lists.{list_all_front}

@@ -1,16 +1,15 @@
 -- What pieces come to, one after another.
-use Rattle.std.proofs.Common.{◌≡◌, refl, sym, ap, subst, ◌∙◌, ℕ, ◌+◌, ◌<◌, ◌≤◌, List, [], ◌∷◌, ◌++◌, length, drop, get_or, Ok, Err, None, Some, append_assoc, Vec}
+use Rattle.std.proofs.Common.{◌≡◌, refl, sym, ap, ◌∙◌, ℕ, ◌+◌, ◌<◌, ◌≤◌, List, [], ◌∷◌, ◌++◌, length, drop, get_or, Ok, Err, None, append_assoc, Vec}
 use Rattle.std.specs.List.{flat_map}
 use Rattle.std.specs.Prelude.{IfErr, OnOk, Result}
 use Rattle.std.proofs.lemmas.List.{append-nil, drop_all, drop_more}
 use Rattle.std.proofs.lemmas.List.Concat.{flat_map-cons}
 use Rattle.sq_value.specs.declared.Tuple.{Tuple}
 use Rattle.sq_lines.specs.Classes.{last_piece}
-use Rattle.sq_replay.specs.declared.why.Why.{Why}
 use Rattle.sq_intake.specs.declared.intake.IntakeErr.{IntakeErr}
 use Rattle.sq_intake.specs.declared.intake.IntakeErr.TheVariants as error
 use Rattle.sq_replay.specs.FileLines.{pieces_of}
-use Rattle.sq_intake.specs.Incoming.{Halts, Incoming, MovesBy, to_be_told, told, told_from, told_behind}
+use Rattle.sq_intake.specs.Incoming.{Incoming, MovesBy, to_be_told, told, told_from, told_behind}
 use Rattle.sq_intake.specs.Intakes.{IsHaltedBy, IsToldUpTo}
 use Rattle.sq_intake.proofs.IntakeLemmas.{end_fed, last_behind, pieces_end, told_end}
 

@@ -1,5 +1,5 @@
 -- What comes in pieces is told as a stream file is read.
-use Rattle.std.proofs.Common.{◌≡◌, ◌≢◌, ◌⊎◌, refl, sym, ap, subst, ◌∙◌, ℕ, ◌+◌, ◌<◌, ◌≤◌, ◌==◌, Bool, true, false, arith, inl, inr}
+use Rattle.std.proofs.Common.{◌≡◌, ◌≢◌, ◌⊎◌, refl, sym, ap, subst, ◌∙◌, ℕ, ◌+◌, ◌<◌, ◌==◌, Bool, true, false, arith, inl, inr}
 use Rattle.std.proofs.Common.{List, [], ◌∷◌, ◌++◌, length, Ok, Err, None, Some, append_assoc}
 use Rattle.std.specs.Prelude.{Result, if◌then◌else◌}
 use Rattle.std.specs.Str.Lines.{strip_carriage_return}
@@ -7,14 +7,14 @@ use Rattle.std.proofs.lemmas.Bool.{cases_Bool}
 use Rattle.std.proofs.lemmas.Bool.Decides.{nat_tests}
 use Rattle.sq_value.specs.declared.Kind.{Kind}
 use Rattle.sq_value.specs.declared.Tuple.{Tuple}
-use Rattle.sq_value.specs.Values.{Columns, kinds_of}
+use Rattle.sq_value.specs.Values.{kinds_of}
 use Rattle.sq_csv.specs.Records.{is_mark}
 use Rattle.sq_replay.specs.declared.why.Why.{Why}
 use Rattle.sq_replay.specs.declared.why.Why.TheVariants as why
 use Rattle.sq_replay.specs.FileLines.{lines_from, pieces_of, without_mark}
-use Rattle.sq_intake.specs.Incoming.{Incoming, MovesBy, and_told, bare_line, brings, to_be_told, punctuation_in, told, told_from, told_in, told_behind}
+use Rattle.sq_intake.specs.Incoming.{bare_line, brings, to_be_told, punctuation_in, told, told_from, told_behind}
 use Rattle.sq_intake.specs.IncomingLaws.{LacksPunctuation, ToldAsStreams}
-use Rattle.sq_replay.specs.Streams.{at_line, stream_in, tuple_of_line, tuple_on_line, tuples_from, unless}
+use Rattle.sq_replay.specs.Streams.{at_line, tuple_of_line, tuple_on_line, tuples_from, unless}
 use Rattle.sq_replay.proofs.FitLemmas.{tuples_chain}
 use Rattle.sq_replay.proofs.RecordedLemmas.{empty_or, uncounted}
 use Rattle.sq_intake.proofs.IncomingLemmas.{brings_bad, brings_none, brings_tuple, told_bad, told_step}

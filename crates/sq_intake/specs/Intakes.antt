@@ -1,6 +1,5 @@
 -- Lines as they are taken in.
-use Rattle.std.specs.Prelude.{◌≡◌, ⊤, ℕ, ◌+◌, ◌<◌, ◌≤◌, List, [], ◌∷◌, ◌++◌, length, Some}
-use Rattle.sq_value.specs.declared.Kind.{Kind}
+use Rattle.std.specs.Prelude.{◌≡◌, ⊤, ℕ, ◌<◌, ◌≤◌, List, [], ◌∷◌, ◌++◌, length, Some}
 use Rattle.sq_value.specs.declared.Tuple.{Tuple}
 use Rattle.sq_csv.specs.Cuts.{Lacks}
 use Rattle.sq_intake.specs.declared.intake.IntakeErr.{IntakeErr}

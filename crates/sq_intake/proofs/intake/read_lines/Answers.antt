@@ -1,4 +1,4 @@
-use Rattle.std.proofs.Common.{arith, length, ◌<◌, ◌≡◌, ◌+◌, ◌++◌, ◌∷◌, [], refl, sym, ap, ◌∙◌, Some, None, Ok, Err}
+use Rattle.std.proofs.Common.{arith, length, ◌<◌, ◌≡◌, ◌+◌, ◌++◌, ◌∷◌, [], sym, ap, ◌∙◌, Some, Ok}
 use Rattle.std.proofs.lemmas.List.{append-nil, length-append}
 use Rattle.std.specs.List.{cons_option}
 use Rattle.sq_intake.specs.Incoming.{bare_line, brings, told}

@@ -1,4 +1,4 @@
-use Rattle.std.proofs.Common.{◌≡◌, drop}
+use Rattle.std.proofs.Common.{drop}
 use Rattle.std.specs.List.{flat_map}
 use Rattle.sq_csv.specs.Cuts.{Lacks}
 use Rattle.sq_value.specs.Values.{kinds_of}
