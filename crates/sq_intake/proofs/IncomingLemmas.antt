@@ -1,5 +1,5 @@
 -- What whole lines come to, whatever comes behind them.
-use Rattle.std.proofs.Common.{zero, suc, ◌≡◌, refl, sym, ap, subst, ◌∙◌, ℕ, ◌+◌, ◌<◌, ◌≤◌, ◌==◌, Bool, true, false, arith, inl, inr, max}
+use Rattle.std.proofs.Common.{zero, suc, ◌≡◌, refl, sym, ap, subst, ◌∙◌, ℕ, ◌+◌, ◌<◌, ◌≤◌, ◌==◌, Bool, true, false, arith, inl, inr}
 use Rattle.std.proofs.Common.{List, [], ◌∷◌, ◌++◌, length, drop, get_or, Ok, Err, None, Some, append_assoc}
 use Rattle.std.specs.Prelude.{Option, if◌then◌else◌}
 use Rattle.std.specs.List.{cons_option}
@@ -20,7 +20,7 @@ use Rattle.sq_replay.specs.Streams.{tuple_of_line}
 use Rattle.sq_replay.proofs.RecordedLemmas.{pieces_here, pieces_past}
 use Rattle.sq_intake.proofs.ComeLemmas.{IsLater, brings_later}
 
-pub front_front : (a b : List Tuple) (t : Told) → told_behind a (told_behind b t) ≡ told_behind (a ++ b) t
+front_front : (a b : List Tuple) (t : Told) → told_behind a (told_behind b t) ≡ told_behind (a ++ b) t
 front_front a b t = ap (λ xs. told xs t.bad) (sym (append_assoc a b t.tuples))
 
 -- a text that ends in a line feed has two pieces at least
@@ -106,11 +106,6 @@ told_bad ks latest n piece pieces why e = ap (λ r. and_told n r (λ later. told
 pub brings_tuple : (ks : List Kind) (latest : ℕ) (line : List ℕ) (x : Tuple) → 0 < length line → tuple_of_line ks latest line ≡ Ok x → brings ks latest line ≡ Ok (Some x, x.time)
 brings_tuple ks latest [] x some e = absurd (omega arith)
 brings_tuple ks latest (b ∷ bs) x some e = ap (brought_by latest (punctuation_in (b ∷ bs))) e
-
-pub brings_tick : (ks : List Kind) (latest : ℕ) (line : List ℕ) (why : Why) (tick : ℕ) → 0 < length line → tuple_of_line ks latest line ≡ Err why → punctuation_in line ≡ Some tick
-    → brings ks latest line ≡ Ok (None, max latest tick)
-brings_tick ks latest [] why tick some e mark = absurd (omega arith)
-brings_tick ks latest (b ∷ bs) why tick some e mark = ap (brought_by latest (punctuation_in (b ∷ bs))) e ∙ ap (λ m. brought_by latest m (Err why)) mark
 
 pub brings_bad : (ks : List Kind) (latest : ℕ) (line : List ℕ) (why : Why) → 0 < length line → tuple_of_line ks latest line ≡ Err why → punctuation_in line ≡ None
     → brings ks latest line ≡ Err why

@@ -5,7 +5,7 @@ use Rattle.std.specs.Prelude.{Option, Result, not, ◌&&◌, IfErr, OnOk}
 use Rattle.std.specs.Result.{is_ok}
 use Rattle.std.specs.List.{list_all}
 use Rattle.std.proofs.lemmas.Bool.{cases_Bool}
-use Rattle.std.proofs.lemmas.List.{append-nil, drop_all, length-append, length-take, take-append-drop}
+use Rattle.std.proofs.lemmas.List.{append-nil, drop_all, length-append, length-drop, length-take, take-append-drop}
 use Rattle.std.proofs.lemmas.List.Folds.{list_all-append}
 use Rattle.sq_value.specs.declared.Kind.{Kind}
 use Rattle.sq_value.specs.declared.Tuple.{Tuple}
@@ -13,7 +13,7 @@ use Rattle.sq_csv.specs.Cuts.{Lacks}
 use Rattle.sq_lines.specs.Classes.{all_but_last, last_piece}
 use Rattle.sq_replay.specs.declared.why.Why.{Why}
 use Rattle.sq_replay.specs.FileLines.{pieces_of}
-use Rattle.sq_intake.specs.Incoming.{MovesBy, Told, and_told, bare_line, brings, incoming, told_from, told_behind}
+use Rattle.sq_intake.specs.Incoming.{Told, and_told, bare_line, brings, incoming, told_from, told_behind}
 use Rattle.sq_intake.proofs.IncomingLemmas.{whole_drop, whole_pieces}
 use Rattle.sq_words.proofs.Bools.{and_true, not_true}
 use Rattle.sq_words.proofs.Lists.{list_all_front}
@@ -22,11 +22,11 @@ use Rattle.sq_intake.specs.declared.intake.IntakeErr.{IntakeErr}
 use Rattle.sq_intake.specs.declared.intake.IntakeErr.TheVariants as error
 use Rattle.sq_words.proofs.Results.{OnOk_weaker}
 
-pub whole_cons : (b : ℕ) (text : List ℕ) → AreWhole text → 0 < length text → AreWhole (b ∷ text)
+whole_cons : (b : ℕ) (text : List ℕ) → AreWhole text → 0 < length text → AreWhole (b ∷ text)
 whole_cons b [] whole some = absurd (omega arith)
 whole_cons b (c ∷ bs) whole some = whole
 
-pub whole_append : (text lines : List ℕ) → AreWhole lines → 0 < length lines → AreWhole (text ++ lines)
+whole_append : (text lines : List ℕ) → AreWhole lines → 0 < length lines → AreWhole (text ++ lines)
 whole_append [] lines whole some = whole
 whole_append (b ∷ bs) lines whole some = whole_cons b (bs ++ lines) (whole_append bs lines whole some) (omega (arith, length-append bs lines, some))
 
@@ -66,7 +66,7 @@ last_behind [] text lacks = ap last_piece (lacks_alone text lacks)
 last_behind (p ∷ []) text lacks = ap (λ ps. last_piece (p ∷ ps)) (lacks_alone text lacks)
 last_behind (p ∷ q ∷ pieces) text lacks = last_behind (q ∷ pieces) text lacks
 
-pub last_kept : (lines kept : List ℕ) → AreWhole lines → Lacks 10 kept → last_piece (pieces_of (lines ++ kept)) ≡ kept
+last_kept : (lines kept : List ℕ) → AreWhole lines → Lacks 10 kept → last_piece (pieces_of (lines ++ kept)) ≡ kept
 last_kept lines kept whole lacks = ap last_piece (whole_pieces lines kept whole) ∙ last_behind (all_but_last (pieces_of lines)) kept lacks
 
 pub has_one : (bs : List ℕ) → (p : List ℕ) × (ps : List (List ℕ)) × (pieces_of bs ≡ p ∷ ps)
@@ -102,31 +102,28 @@ end_fed ks latest n text =
     ∙ ap (λ t. told_from ks latest n (pieces_of t)) (sym (append-nil (text ++ 10 ∷ [])))
 
 -- lines before a place passed, whatever is kept behind them
-pub read_moves : (ks : List Kind) (latest passed later more : ℕ) (lines kept : List ℕ) (at next : ℕ) (known now : List Tuple) → MovesBy (incoming ks latest passed (drop at lines)) (incoming ks later more (drop next lines)) [] known now
-    → MovesBy (incoming ks latest passed (drop at lines ++ kept)) (incoming ks later more (drop next lines ++ kept)) [] known now
-read_moves ks latest passed later more lines kept at next known now moves rest =
-    ap (λ t. told_behind known (told_from ks latest (passed + 1) (pieces_of t))) (append_assoc (drop at lines) kept rest) ∙ moves (kept ++ rest)
-    ∙ ap (λ t. told_behind now (told_from ks later (more + 1) (pieces_of t))) (sym (append_assoc (drop next lines) kept rest))
-
 pub read_halts : (e : IntakeErr) (ks : List Kind) (latest passed : ℕ) (lines kept : List ℕ) (at : ℕ) (known now : List Tuple) → IsHaltedBy e (incoming ks latest passed (drop at lines)) known now
     → IsHaltedBy e (incoming ks latest passed (drop at lines ++ kept)) known now
 read_halts (error.Bad line why) ks latest passed lines kept at known now halts =
     λ rest. ap (λ t. told_behind known (told_from ks latest (passed + 1) (pieces_of t))) (append_assoc (drop at lines) kept rest) ∙ halts (kept ++ rest)
 read_halts error.TooLong ks latest passed lines kept at known now halts = halts
-read_halts error.TooMany ks latest passed lines kept at known now halts = tt
+read_halts error.TooMany ks latest passed lines kept at known now halts = (
+  record halts.0 { text = halts.0.text ++ kept },
+  λ rest.
+      ap (λ t. told_behind known (told_from ks latest (passed + 1) (pieces_of t))) (append_assoc (drop at lines) kept rest) ∙ halts.1 (kept ++ rest)
+      ∙ ap (λ t. told_behind now (told_from halts.0.kinds halts.0.latest (halts.0.passed + 1) (pieces_of t))) (sym (append_assoc halts.0.text kept rest)),
+  halts.2,
+)
 read_halts error.Memory ks latest passed lines kept at known now halts = tt
 
 pub all_passed : (lines kept : List ℕ) (at next : ℕ) → KeepsLines lines at kept → next ≡ length lines → drop next lines ++ kept ≡ last_piece (pieces_of (drop at lines ++ kept))
 all_passed lines kept at next keeps all =
     ap (λ t. t ++ kept) (drop_all next lines (omega (arith, all))) ∙ sym (last_kept (drop at lines) kept (whole_drop at lines keeps.whole) keeps.lacks)
 
-pub all_lacks : (lines kept : List ℕ) (next : ℕ) → Lacks 10 kept → next ≡ length lines → Lacks 10 (drop next lines ++ kept)
-all_lacks lines kept next lacks all = subst (λ t. Lacks 10 (t ++ kept)) (sym (drop_all next lines (omega (arith, all)))) lacks
+pub shorter : (lines kept : List ℕ) (at next : ℕ) → at < next → next ≤ length lines → length (drop next lines ++ kept) < length (drop at lines ++ kept)
+shorter lines kept at next on within = omega (arith, length-append (drop next lines) kept, length-append (drop at lines) kept, length-drop next lines, length-drop at lines)
 
 -- a piece was put behind what is kept
-pub add_ok : (r : Result (Unit {0}) IntakeErr) (front kept piece now : List ℕ) → OnOk r ((now ≡ kept ++ piece) × (length now ≤ 67108864)) → OnOk r (front ++ now ≡ (front ++ kept) ++ piece)
-add_ok r front kept piece now h = OnOk_weaker r (λ k. ap (λ t. front ++ t) k.0 ∙ sym (append_assoc front kept piece)) h
-
 pub add_halts : (r : Result (Unit {0}) IntakeErr) (front kept piece now : List ℕ) → AreWhole front → Lacks 10 now → IfErr r (λ e. Overfills e kept now piece) → IfErr r (λ e. IsOverfull e (front ++ kept) (front ++ now) piece)
 add_halts (Ok x) front kept piece now whole lacks h = tt
 add_halts (Err (error.Bad line why)) front kept piece now whole lacks h = absurd h

@@ -10,14 +10,8 @@ use Rattle.sq_intake.specs.declared.intake.IntakeErr.{IntakeErr}
 use Rattle.sq_intake.specs.declared.intake.IntakeErr.TheVariants as error
 use Rattle.sq_replay.specs.FileLines.{pieces_of}
 use Rattle.sq_intake.specs.Incoming.{Incoming, MovesBy, to_be_told, told, told_from, told_behind}
-use Rattle.sq_intake.specs.Intakes.{IsHaltedBy, IsToldUpTo}
+use Rattle.sq_intake.specs.Intakes.{IsHaltedBy, IsOverlong, IsToldUpTo}
 use Rattle.sq_intake.proofs.IntakeLemmas.{end_fed, last_behind, pieces_end, told_end}
-
-pub halted_back : (e : IntakeErr) (a b : Incoming) (known mid now : List Tuple) → MovesBy a b [] known mid → IsHaltedBy e b mid now → IsHaltedBy e a known now
-halted_back (error.Bad line why) a b known mid now moves halts = λ rest. moves rest ∙ halts rest
-halted_back error.TooLong a b known mid now moves halts = halts
-halted_back error.TooMany a b known mid now moves halts = tt
-halted_back error.Memory a b known mid now moves halts = tt
 
 -- what a text comes to is what is known and what these bytes of it come to that are left
 abbrev pub Joined : Incoming → List ℕ → List Tuple → Incoming → List ℕ → Type 0
@@ -32,14 +26,26 @@ joined_on start all now after s fed t piece whole left joined cut is moves rest 
     joined rest ∙ ap (λ b. told_behind now (to_be_told s (b ++ rest))) cut ∙ ap (λ b. told_behind now (to_be_told s b)) (append_assoc piece left rest) ∙ ap (told_behind now) (given_one s piece (left ++ rest))
     ∙ ap (λ u. told_behind now (to_be_told u (left ++ rest))) (sym is) ∙ moves (left ++ rest)
 
+joined_given : (start : Incoming) (all : List ℕ) (now : List Tuple) (s fed : Incoming) (piece whole left : List ℕ) → Joined start all now s whole → whole ≡ piece ++ left → fed ≡ record s { text = s.text ++ piece }
+    → to_be_told start all ≡ told_behind now (to_be_told fed (left ++ []))
+joined_given start all now s fed piece whole left joined cut is =
+    ap (to_be_told start) (sym (append-nil all)) ∙ joined [] ∙ ap (λ b. told_behind now (to_be_told s (b ++ []))) cut ∙ ap (λ b. told_behind now (to_be_told s b)) (append_assoc piece left [])
+    ∙ ap (told_behind now) (given_one s piece (left ++ [])) ∙ ap (λ u. told_behind now (to_be_told u (left ++ []))) (sym is)
+
 pub joined_bad : (e : IntakeErr) (start : Incoming) (all : List ℕ) (now after : List Tuple) (s fed : Incoming) (piece whole left : List ℕ) → Joined start all now s whole → whole ≡ piece ++ left → fed ≡ record s { text = s.text ++ piece }
     → IsHaltedBy e fed now after → IsToldUpTo e (to_be_told start all) after
-joined_bad (error.Bad line why) start all now after s fed piece whole left joined cut is halts =
-    ap (to_be_told start) (sym (append-nil all)) ∙ joined [] ∙ ap (λ b. told_behind now (to_be_told s (b ++ []))) cut ∙ ap (λ b. told_behind now (to_be_told s b)) (append_assoc piece left []) ∙ ap (told_behind now) (given_one s piece (left ++ []))
-    ∙ ap (λ u. told_behind now (to_be_told u (left ++ []))) (sym is) ∙ halts (left ++ [])
-joined_bad error.TooLong start all now after s fed piece whole left joined cut is halts = tt
-joined_bad error.TooMany start all now after s fed piece whole left joined cut is halts = tt
+joined_bad (error.Bad line why) start all now after s fed piece whole left joined cut is halts = joined_given start all now s fed piece whole left joined cut is ∙ halts (left ++ [])
+joined_bad error.TooLong start all now after s fed piece whole left joined cut is halts = absurd halts
+joined_bad error.TooMany start all now after s fed piece whole left joined cut is halts =
+    (to_be_told halts.0 (left ++ []), joined_given start all now s fed piece whole left joined cut is ∙ halts.1 (left ++ []))
 joined_bad error.Memory start all now after s fed piece whole left joined cut is halts = tt
+
+-- a line is too long
+pub joined_long : (e : IntakeErr) (start : Incoming) (all : List ℕ) (now : List Tuple) (s fed : Incoming) (piece left : List ℕ) → Joined start all now s left → IsOverlong e s fed piece → IsToldUpTo e (to_be_told start all) now
+joined_long (error.Bad line why) start all now s fed piece left joined over = absurd over
+joined_long error.TooLong start all now s fed piece left joined over = (to_be_told s (left ++ []), ap (to_be_told start) (sym (append-nil all)) ∙ joined [])
+joined_long error.TooMany start all now s fed piece left joined over = absurd over
+joined_long error.Memory start all now s fed piece left joined over = tt
 
 fed_end : (s : Incoming) → to_be_told s [] ≡ to_be_told (record s { text = s.text ++ 10 ∷ [] }) []
 fed_end s = end_fed s.kinds s.latest (s.passed + 1) s.text
@@ -50,19 +56,22 @@ no_text s none = ap (λ t. told_from s.kinds s.latest (s.passed + 1) (pieces_of 
 last_fed : (text : List ℕ) → last_piece (pieces_of (text ++ 10 ∷ [])) ≡ []
 last_fed text = ap last_piece (pieces_end text) ∙ last_behind (pieces_of text) [] refl
 
-pub joined_end : (start : Incoming) (all : List ℕ) (now after : List Tuple) (s fed t : Incoming) (left : List ℕ) → Joined start all now s left → left ≡ [] → fed ≡ record s { text = s.text ++ 10 ∷ [] }
+joined_ended : (start : Incoming) (all : List ℕ) (now : List Tuple) (s fed : Incoming) (left : List ℕ) → Joined start all now s left → left ≡ [] → fed ≡ record s { text = s.text ++ 10 ∷ [] }
+    → to_be_told start all ≡ told_behind now (to_be_told fed [])
+joined_ended start all now s fed left joined none is =
+    ap (to_be_told start) (sym (append-nil all)) ∙ joined [] ∙ ap (λ b. told_behind now (to_be_told s (b ++ []))) none ∙ ap (told_behind now) (fed_end s) ∙ ap (λ u. told_behind now (to_be_told u [])) (sym is)
+
+joined_end : (start : Incoming) (all : List ℕ) (now after : List Tuple) (s fed t : Incoming) (left : List ℕ) → Joined start all now s left → left ≡ [] → fed ≡ record s { text = s.text ++ 10 ∷ [] }
     → MovesBy fed t [] now after → t.text ≡ last_piece (pieces_of fed.text) → to_be_told start all ≡ told after None
 joined_end start all now after s fed t left joined none is moves last =
     let empty : t.text ≡ [] = last ∙ ap (λ (u : Incoming). last_piece (pieces_of u.text)) is ∙ last_fed s.text in
-    ap (to_be_told start) (sym (append-nil all)) ∙ joined [] ∙ ap (λ b. told_behind now (to_be_told s (b ++ []))) none ∙ ap (told_behind now) (fed_end s) ∙ ap (λ u. told_behind now (to_be_told u [])) (sym is) ∙ moves []
-    ∙ ap (told_behind after) (no_text t empty) ∙ ap (λ xs. told xs None) (append-nil after)
+    joined_ended start all now s fed left joined none is ∙ moves [] ∙ ap (told_behind after) (no_text t empty) ∙ ap (λ xs. told xs None) (append-nil after)
 
-pub ended_bad : (e : IntakeErr) (start : Incoming) (all : List ℕ) (now after : List Tuple) (s fed : Incoming) (left : List ℕ) → Joined start all now s left → left ≡ [] → fed ≡ record s { text = s.text ++ 10 ∷ [] }
+ended_bad : (e : IntakeErr) (start : Incoming) (all : List ℕ) (now after : List Tuple) (s fed : Incoming) (left : List ℕ) → Joined start all now s left → left ≡ [] → fed ≡ record s { text = s.text ++ 10 ∷ [] }
     → IsHaltedBy e fed now after → IsToldUpTo e (to_be_told start all) after
-ended_bad (error.Bad line why) start all now after s fed left joined none is halts =
-    ap (to_be_told start) (sym (append-nil all)) ∙ joined [] ∙ ap (λ b. told_behind now (to_be_told s (b ++ []))) none ∙ ap (told_behind now) (fed_end s) ∙ ap (λ u. told_behind now (to_be_told u [])) (sym is) ∙ halts []
-ended_bad error.TooLong start all now after s fed left joined none is halts = tt
-ended_bad error.TooMany start all now after s fed left joined none is halts = tt
+ended_bad (error.Bad line why) start all now after s fed left joined none is halts = joined_ended start all now s fed left joined none is ∙ halts []
+ended_bad error.TooLong start all now after s fed left joined none is halts = absurd halts
+ended_bad error.TooMany start all now after s fed left joined none is halts = (to_be_told halts.0 [], joined_ended start all now s fed left joined none is ∙ halts.1 [])
 ended_bad error.Memory start all now after s fed left joined none is halts = tt
 
 -- the bytes of pieces from one on

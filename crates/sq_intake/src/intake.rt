@@ -142,6 +142,7 @@ fn read_lines(
     ensures ok { IfOk result (λ p. MovesBy (incoming kinds.now latest passed (drop from text.now)) (incoming kinds.now p.0 p.1 (drop p.2 text.now)) [] tuples.old.items tuples.new.items) }
     ensures within { IfOk result (λ p. p.2 ≤ length text.now) }
     ensures more { IfOk result (λ p. p.2 < length text.now → most ≤ length tuples.new.items) }
+    ensures further { IfOk result (λ p. length tuples.old.items < most → p.2 < length text.now → from < p.2) }
     ensures bad { IfErr result (λ e. IsHaltedBy e (incoming kinds.now latest passed (drop from text.now)) tuples.old.items tuples.new.items) }
     ensures behind { IsPrefixOf tuples.old.items tuples.new.items }
     ensures few { length tuples.new.items ≤ max most (length tuples.old.items) }
@@ -292,6 +293,7 @@ impl Intake {
         ensures lacks { IfOk result (λ all. all ≡ true → Lacks 10 self.new.text) }
         ensures more { IfOk result (λ all. all ≡ false → most ≤ length tuples.new.items) }
         ensures few { length tuples.new.items ≤ max most (length tuples.old.items) }
+        ensures less { IfOk result (λ all. all ≡ false → length tuples.old.items < most → length self.new.text < length self.old.text) }
         ensures halts { IfErr result (λ e. IsHaltedBy e self.old tuples.old.items tuples.new.items) }
         ensures behind { IsPrefixOf tuples.old.items tuples.new.items }
         ensures ahead { OnOk result (NoneAfter self.old.latest tuples.old.items → NoneAfter self.new.latest tuples.new.items) }

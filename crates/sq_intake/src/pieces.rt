@@ -21,15 +21,15 @@ fn read_all(intake: &mut Intake, tuples: &mut Vec<Tuple>) -> Result<(), IntakeEr
     ensures lacks { OnOk result (Lacks 10 intake.new.text) }
     ensures halts { IfErr result (λ e. IsHaltedBy e intake.old tuples.old.items tuples.new.items) }
 {
-    'batches: for _ in 0..u64::MAX {
-        let most = tuples.len().saturating_add(BATCH);
+    let mut all = false;
+    'batches: while !all {
+        let most = tuples.len() + BATCH;
         match intake.read(most, tuples) {
-            Ok(true) => return Ok(()),
-            Ok(false) => {}
+            Ok(none_left) => all = none_left,
             Err(e) => return Err(e),
         }
     }
-    Err(IntakeErr::TooMany)
+    Ok(())
 }
 
 /// The tuples of a stream that comes in these pieces, up to its first bad line: whatever the cuts, they are those of the text

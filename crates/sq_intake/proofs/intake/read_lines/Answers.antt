@@ -1,7 +1,7 @@
-use Rattle.std.proofs.Common.{arith, length, ◌<◌, ◌≡◌, ◌+◌, ◌++◌, ◌∷◌, [], sym, ap, ◌∙◌, Some, Ok}
+use Rattle.std.proofs.Common.{arith, drop, length, ◌<◌, ◌≡◌, ◌+◌, ◌++◌, ◌∷◌, [], sym, ap, ◌∙◌, Some, Ok}
 use Rattle.std.proofs.lemmas.List.{append-nil, length-append}
 use Rattle.std.specs.List.{cons_option}
-use Rattle.sq_intake.specs.Incoming.{bare_line, brings, told}
+use Rattle.sq_intake.specs.Incoming.{bare_line, brings, incoming, told}
 use Rattle.sq_intake.proofs.IncomingLemmas.{ahead_on, brings_at_once, line_steps, moved_bad, moved_on, prefix_push}
 use Rattle.sq_replay.proofs.StreamLemmas.{pushed}
 use Rattle.sq_intake.proofs.intake.read_lines.Goals as goal
@@ -21,6 +21,8 @@ lines-preserved-in-Ok-Some c =
           moved_on ks c.args.latest c.args.passed text c.args.from c.args.tuples.now.items l.latest l.passed l.at l.tuples.items read.line (c.read_at_once.new.end + 1) c.in-Ok-Some.tuple.time c.in-Some.number (Some c.in-Ok-Some.tuple)
           c.push.new.self.items l.invariant.so_far step (brings_at_once ks l.latest l.passed text l.at c.in-Ok-Some.tuple c.read_at_once.new.end c.if-passed-gt0.true read) c.in-Some.ensures.1 one;
       within = step.within;
+      forward = omega (arith, read.ahead, l.invariant.forward);
+      still = λ is. absurd (omega (arith, is, read.ahead, l.invariant.forward));
       behind = prefix_push c.args.tuples.now.items l.tuples.items c.push.new.self.items c.in-Ok-Some.tuple l.invariant.behind one;
       few = let longer = ap length one in omega (arith, length-append l.tuples.items (c.in-Ok-Some.tuple ∷ []), longer, l.invariant.few);
       ahead = λ none.
@@ -49,6 +51,8 @@ lines-preserved-else-is_err-2 c =
           moved_on ks c.args.latest c.args.passed text c.args.from c.args.tuples.now.items l.latest l.passed l.at l.tuples.items piece next c.in-Ok.later c.in-Some.number c.in-Ok.brought new l.invariant.so_far step
           (ap (brings ks l.latest) line ∙ brought) c.in-Some.ensures.1 (one ∙ ap (λ o. l.tuples.items ++ cons_option o []) (sym is));
       within = step.within;
+      forward = omega (arith, c.piece_at-next.ensures.further, l.invariant.forward);
+      still = λ is. absurd (omega (arith, is, c.piece_at-next.ensures.further, l.invariant.forward));
       behind = prefix_push c.args.tuples.now.items l.tuples.items new c.in-Some-brought.tuple l.invariant.behind one;
       few = let longer = ap length one in omega (arith, length-append l.tuples.items (c.in-Some-brought.tuple ∷ []), longer, l.invariant.few);
       ahead = λ none.
@@ -70,12 +74,19 @@ lines-preserved c =
           moved_on ks c.args.latest c.args.passed text c.args.from c.args.tuples.now.items l.latest l.passed l.at l.tuples.items piece next c.in-Ok.later c.in-Some.number c.in-Ok.brought l.tuples.items l.invariant.so_far step
           (ap (brings ks l.latest) line ∙ c.in-Ok.ensures.brings) c.in-Some.ensures.1 (sym (append-nil l.tuples.items) ∙ ap (λ o. l.tuples.items ++ cons_option o []) (sym c.in_default-brought.is));
       within = step.within;
+      forward = omega (arith, c.piece_at-next.ensures.further, l.invariant.forward);
+      still = λ is. absurd (omega (arith, is, c.piece_at-next.ensures.further, l.invariant.forward));
       behind = l.invariant.behind;
       few = l.invariant.few;
       ahead = λ none.
           ahead_on ks l.latest c.in-Ok.later c.bare_line-line.result.now c.in-Ok.brought l.tuples.items l.tuples.items c.in-Ok.ensures.brings
           (sym (append-nil l.tuples.items) ∙ ap (λ o. l.tuples.items ++ cons_option o []) (sym c.in_default-brought.is)) (l.invariant.ahead none);
     }
+
+pub returns-in_default-clause-bad : goal.returns-in_default-clause-bad
+returns-in_default-clause-bad c =
+    let l = c.lines in
+    (incoming c.args.kinds.now l.latest l.passed (drop l.at c.args.text.now), l.invariant.so_far, omega (arith, c.in_default.ensures))
 
 pub returns-in-Err-Bad-clause-bad : goal.returns-in-Err-Bad-clause-bad
 returns-in-Err-Bad-clause-bad c rest =

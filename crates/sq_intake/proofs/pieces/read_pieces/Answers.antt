@@ -1,8 +1,8 @@
-use Rattle.std.proofs.Common.{◌≡◌, ◌+◌, ◌++◌, sym, ap, ◌∙◌, drop, ℕ, List, Vec, Global}
+use Rattle.std.proofs.Common.{◌≡◌, ◌+◌, ◌++◌, sym, ap, ◌∙◌, drop, ℕ, List, [], ◌∷◌, Vec, Global}
 use Rattle.std.specs.List.{flat_map}
 use Rattle.sq_value.specs.Values.{kinds_of}
 use Rattle.sq_intake.specs.Incoming.{nothing_passed}
-use Rattle.sq_intake.proofs.PiecesLemmas.{ended_halts, ended_ok, joined_bad, joined_on, next_piece, no_pieces}
+use Rattle.sq_intake.proofs.PiecesLemmas.{ended_halts, ended_ok, joined_bad, joined_long, joined_on, next_piece, no_pieces}
 use Rattle.sq_intake.proofs.pieces.read_pieces.Goals as goal
 
 abbrev bytes_of : List (Vec ℕ Global) → List ℕ
@@ -47,3 +47,17 @@ returns-in-Ok-give-2-clause-bad c =
     let read = c.read_all-in-Ok-give-2 in
     ended_halts read.result (nothing_passed (kinds_of c.args.schema.now)) (bytes_of pieces) l.tuples.items read.new.tuples.items l.intake c.give-2.new.self
     (bytes_of (drop l.piece-index pieces)) l.invariant.joined (no_pieces pieces l.piece-index c.loop-piece-test.false) c.in-Ok-give-2.ensures.given read.ensures.halts
+
+pub returns-in-Err-clause-bad : goal.returns-in-Err-clause-bad
+returns-in-Err-clause-bad c =
+    let l = c.loop-piece in
+    let pieces = c.args.pieces.now in
+    joined_long c.in-Err.e (nothing_passed (kinds_of c.args.schema.now)) (bytes_of pieces) l.tuples.items l.intake c.give.new.self c.deref.result.now (bytes_of (drop l.piece-index pieces))
+    l.invariant.joined c.in-Err.ensures.halts
+
+pub returns-clause-bad : goal.returns-clause-bad
+returns-clause-bad c =
+    let l = c.loop-piece in
+    let pieces = c.args.pieces.now in
+    joined_long c.in-Err-give.e (nothing_passed (kinds_of c.args.schema.now)) (bytes_of pieces) l.tuples.items l.intake c.give-2.new.self (10 ∷ []) (bytes_of (drop l.piece-index pieces))
+    l.invariant.joined c.in-Err-give.ensures.halts
