@@ -4,7 +4,7 @@ ghost use Rattle.std.specs.List.{flat_map};
 ghost use Rattle.sq_csv.specs.Cuts.{Lacks};
 ghost use Rattle.sq_lines.specs.Classes.{last_piece};
 ghost use Rattle.sq_replay.specs.FileLines.{pieces_of};
-ghost use Rattle.sq_intake.specs.Incoming.{MovesBy, told, told_in};
+ghost use Rattle.sq_intake.specs.Incoming.{MovesBy, told, told_behind, told_in};
 ghost use Rattle.sq_intake.specs.Intakes.{IsHaltedBy, IsToldUpTo};
 
 use crate::{Intake, IntakeErr};
@@ -32,17 +32,16 @@ fn read_all(intake: &mut Intake, tuples: &mut Vec<Tuple>) -> Result<(), IntakeEr
     Ok(())
 }
 
-/// The tuples of a stream that comes in these pieces, up to its first bad line: whatever the cuts, they are those of the text
-/// that the pieces are together.
+/// Puts the tuples of a stream that comes in these pieces, up to its first bad line, behind others: whatever the cuts, they are
+/// those of the text that the pieces are together.
 pub fn read_pieces(
     alloc: Global,
     schema: &Schema,
     pieces: &[Vec<u8>],
     tuples: &mut Vec<Tuple>,
 ) -> Result<(), IntakeErr>
-    requires { tuples.old.items ≡ [] }
-    ensures told { OnOk result (told_in schema.now (flat_map (λ piece. piece.items) pieces.now) ≡ told tuples.new.items None) }
-    ensures bad { IfErr result (λ e. IsToldUpTo e (told_in schema.now (flat_map (λ piece. piece.items) pieces.now)) tuples.new.items) }
+    ensures told { OnOk result (told_behind tuples.old.items (told_in schema.now (flat_map (λ piece. piece.items) pieces.now)) ≡ told tuples.new.items None) }
+    ensures bad { IfErr result (λ e. IsToldUpTo e (told_behind tuples.old.items (told_in schema.now (flat_map (λ piece. piece.items) pieces.now))) tuples.new.items) }
 {
     let Ok(mut intake) = Intake::new(alloc, schema) else {
         return Err(IntakeErr::Memory);

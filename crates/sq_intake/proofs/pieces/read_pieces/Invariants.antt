@@ -8,6 +8,6 @@ use Rattle.sq_intake.proofs.pieces.read_pieces.Given as goal
 
 abbrev pub invariant-loop-piece : goal.invariant-loop-piece
 invariant-loop-piece l = record {
-  joined : Joined (nothing_passed (kinds_of l.fn.schema)) (flat_map (λ p. p.items) l.pieces) l.tuples.items l.intake (flat_map (λ p. p.items) (drop l.piece-index l.pieces));
+  joined : Joined l.fn.tuples.items (nothing_passed (kinds_of l.fn.schema)) (flat_map (λ p. p.items) l.pieces) l.tuples.items l.intake (flat_map (λ p. p.items) (drop l.piece-index l.pieces));
   lacks : Lacks 10 l.intake.text;
 }
