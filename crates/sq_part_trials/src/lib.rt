@@ -3,8 +3,8 @@
 //!
 //! They stand here and not in the crates that they test, since a crate with tests is proved a second time, as a program with
 //! them: here a test costs just its own functions. What a run of whole networks shows stands beside `sq_cases`, as data; what
-//! stands here are boxes as a caller meets them one by one, expressions, values, lines, levels and draws, the queues with their
-//! pages and disks, what is outside, real or in memory, and schedules.
+//! stands here are boxes as a caller meets them one by one, expressions, values, lines, streams that come in pieces, levels and
+//! draws, the queues with their pages and disks, what is outside, real or in memory, and schedules.
 #![tactic(auto)]
 
 #[cfg(test)]
@@ -15,6 +15,8 @@ mod expr;
 mod feeding;
 #[cfg(test)]
 mod feeds;
+#[cfg(test)]
+mod intake;
 #[cfg(test)]
 mod lines;
 #[cfg(test)]

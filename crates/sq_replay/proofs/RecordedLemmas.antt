@@ -41,7 +41,7 @@ bad_line : (ks : List Kind) (count latest n : ℕ) (line : List ℕ) (ls : List 
     → tuples_from ks count latest ((n, line) ∷ ls) ≡ Err (n, w)
 bad_line ks count latest n line ls w e = rw e
 
-empty_or : (n : ℕ) → (n ≡ 0) ⊎ (0 < n)
+pub empty_or : (n : ℕ) → (n ≡ 0) ⊎ (0 < n)
 empty_or zero = inl refl
 empty_or (suc n) = inr (omega arith)
 
@@ -61,11 +61,11 @@ left_good : (ks : List Kind) (latest : ℕ) (piece : List ℕ) (pieces : List (L
 left_good ks latest piece pieces x some read = left_text ks latest piece pieces some ∙ ap (λ r. and_then r (λ x. tuples_left ks x.time pieces)) read
 
 -- the rule on the count is another one
-uncounted : (b : Bool) (r : Result Tuple Why) (x : Tuple) → (unless b why.TooMany >>= (λ _few. r)) ≡ Ok x → r ≡ Ok x
+pub uncounted : (b : Bool) (r : Result Tuple Why) (x : Tuple) → (unless b why.TooMany >>= (λ _few. r)) ≡ Ok x → r ≡ Ok x
 uncounted true r x h = cc
 uncounted false r x h = h
 
-not_none : {A : Type 0} (x : A) → Some x ≡ None → ⊥
+pub not_none : {A : Type 0} (x : A) → Some x ≡ None → ⊥
 not_none x h = cc
 
 good_line : (ks : List Kind) (piece : List ℕ) (pieces : List (List ℕ)) (n count latest : ℕ) → 0 < length (strip_carriage_return piece)

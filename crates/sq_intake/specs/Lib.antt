@@ -1,0 +1,3 @@
+pub mod Incoming
+pub mod Intakes
+pub mod IncomingLaws
