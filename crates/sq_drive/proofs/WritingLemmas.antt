@@ -45,10 +45,6 @@ pub on_err : {T E P Q : Type 0} (r : Result T E) → OnErr r P → (P → Q) →
 on_err (Ok x) p f = tt
 on_err (Err e) p f = f p
 
-pub on_ok_both : {T E P Q R : Type 0} (r : Result T E) → OnOk r P → OnOk r Q → (P → Q → R) → OnOk r R
-on_ok_both (Ok x) p q f = f p q
-on_ok_both (Err e) p q f = tt
-
 pub on_ok_any : {T E P : Type 0} (r : Result T E) → P → OnOk r P
 on_ok_any (Ok x) p = p
 on_ok_any (Err e) p = tt
