@@ -11,13 +11,13 @@ use Rattle.sq_queue.specs.Faces.{Together}
 use Rattle.sq_core.specs.Runs.{IsRun, IsSoundEngine}
 use Rattle.sq_status.specs.declared.Status.{Status}
 use Rattle.sq_status.specs.declared.Status.TheVariants as status
-use Rattle.sq_drive.specs.Driving.{IsCutShort, IsDriven, IsEndOf, IsEventAt, IsHalted, WritesFirst, WritesRest, history_text}
+use Rattle.sq_drive.specs.Driving.{IsCutShort, IsDriven, HasEnded, IsEventAt, IsHalted, WritesFirst, WritesRest, history_text}
 use Rattle.sq_drive.specs.Turns.{KeepsRun, RunState, RunsOut, TurnFails}
 use Rattle.sq_drive.proofs.DrivingLemmas.{completes, sound_run}
 use Rattle.sq_drive.proofs.LeftLemmas.{first_shown}
 use Rattle.sq_drive.proofs.TurnLemmas.{turns_lost, turns_none}
 
-pub ends_so : (Whole : List Event → Type 0) (a b : RunState) → KeepsRun a b → RunsOut Whole a b → IsEndOf a.engine b.engine
+pub ends_so : (Whole : List Event → Type 0) (a b : RunState) → KeepsRun a b → RunsOut Whole a b → HasEnded a.engine b.engine
 ends_so Whole a b keeps out = record { network = keeps.network; sound = out.sound; done = out.done }
 
 module _ (a b : RunState) (before now : Option (List ℕ)) (out : RunsOut (λ events. now ≡ appended before (history_text a.engine.network events)) a b) where

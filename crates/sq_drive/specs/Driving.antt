@@ -84,7 +84,7 @@ pub record IsCutShort (faults_before faults_now : ℕ) (result : Status) : Type 
   pub sink : result ≡ status.SinkFault → Rose faults_before faults_now
 
 -- an engine came to its end: sound, of the same network, and all its actors are finished
-pub record IsEndOf (from to : Engine) : Type 0 where
+pub record HasEnded (from to : Engine) : Type 0 where
   pub network : to.network ≡ from.network
   pub sound : IsSoundEngine to
   pub done : AllDone to.engine.flow
