@@ -1,27 +1,47 @@
 -- What a run that is done has shown, fed and lost.
 use Rattle.std.proofs.Common.{◌≡◌, ℕ, ◌+◌, ◌<◌, true, None, refl, List, [], ◌∷◌, ◌++◌, length, Option, Some, slice_get, ap, sym, ◌∙◌, arith, append-nil}
+use Rattle.std.specs.Option.{option_map}
+use Rattle.std.proofs.lemmas.Option.{slice_get-map}
 use Rattle.sq_outside.specs.Disks.{Pages}
+use Rattle.sq_graph.specs.Wires.{arcs_of, input_arcs_of}
 use Rattle.sq_oper.specs.declared.outs.Event.{Event}
+use Rattle.sq_oper.specs.Streams.{tuples_in}
+use Rattle.sq_oper.proofs.StreamLemmas.{tuples_back}
+use Rattle.sq_net.specs.declared.Network.{Network}
+use Rattle.sq_net.proofs.StreamLemmas.{boxes_count}
+use Rattle.sq_points.specs.Above.{drop_above_arc}
+use Rattle.sq_model.specs.FullStreams.{full_arc}
 use Rattle.sq_model.specs.Shedding.{Replay, batch_level}
+use Rattle.sq_model.specs.KeptTuples.{kept_of, needed}
+use Rattle.sq_below.specs.Actors.{arc_from, stream_of, StreamsFollow}
+use Rattle.sq_below.specs.ArcStreams.{marked_arc}
+use Rattle.sq_below.specs.ArcContents.{Drop, standing, on_arc}
+use Rattle.sq_below.proofs.FromSound.{ranks-of}
+use Rattle.sq_below.proofs.Feeding.{kept-ascends}
+use Rattle.sq_below.proofs.Spreading.{tuples-of-spread}
+use Rattle.sq_start.specs.Numbers.{actor_at, reads_of}
+use Rattle.sq_start.specs.Starts.{IsReadReplay}
+use Rattle.sq_start.proofs.NumberLemmas.{box-at}
 use Rattle.sq_pool.specs.Trust.{Tells}
 use Rattle.sq_flow.specs.Events.{lines_of, drops_of}
 use Rattle.sq_flow.specs.Plans.{plans_of, plans_left}
-use Rattle.sq_flow.specs.Wiring.{net_of}
+use Rattle.sq_flow.specs.Wiring.{net_of, arcs_read}
 use Rattle.sq_actor.specs.declared.actor.Actor.{Actor}
 use Rattle.sq_actor.proofs.LateLemmas.{late-lost}
 use Rattle.sq_flow.specs.declared.flow.Flow.{Flow}
 use Rattle.sq_flow.specs.declared.seats.Seat.{Seat}
 use Rattle.sq_flow.specs.Seats.{taken_at, lost_at, done_at, holds_at, IsSeat}
 use Rattle.sq_flow.specs.Engines.{AllDone}
-use Rattle.sq_flow.specs.Flows.{items_in, IsFlow, HoldsItems, lines_left, decisions_left, fed_at_last, lost_at_last, work_at_last, taken_in_all}
+use Rattle.sq_flow.specs.Flows.{items_in, IsFlow, HoldsItems, fed_on, left_on, lines_left, decisions_left, fed_at_last, lost_at_last, work_at_last, taken_in_all}
 use Rattle.sq_core.specs.declared.engine.Engine.{Engine}
 use Rattle.sq_core.specs.Meanings.{actors}
 use Rattle.sq_core.specs.Runs.{IsSoundEngine, IsRun, late_in, ShownAll}
 use Rattle.sq_core.proofs.PlanLemmas.{no-plans}
 use Rattle.sq_core.proofs.RunLemmas.{shown-in, shed-in, box-in}
+use Rattle.sq_core.proofs.TableLemmas.{input-low}
 use Rattle.sq_words.proofs.Bools.{not_true}
 
--- nothing is left of any output, and each operator was fed, and has lost, all that it is fed and loses in all
+-- nothing is left of any output and any arc, and each operator was fed, and has lost, all that it is fed and loses in all
 pub record NothingLeft (e : Engine) : Type 0 where
   pub lines : (pages : Option Pages) (table : ℕ → ℕ → ℕ) → HoldsItems actors table (items_in e.engine.flow pages) e.engine.flow
       → (output : ℕ) → e.engine.flow.wires.shown + output < length e.engine.flow.seats.items → lines_left actors table (items_in e.engine.flow pages) e.engine.flow output ≡ []
@@ -33,6 +53,8 @@ pub record NothingLeft (e : Engine) : Type 0 where
       → (actor : ℕ) → actor < length e.engine.flow.seats.items → lost_at_last actors table (items_in e.engine.flow pages) e.engine.flow actor ≡ lost_at actors (slice_get e.engine.flow.seats.items actor) []
   pub work : (pages : Option Pages) (table : ℕ → ℕ → ℕ) → HoldsItems actors table (items_in e.engine.flow pages) e.engine.flow
       → work_at_last actors table (items_in e.engine.flow pages) e.engine.flow ≡ taken_in_all actors e.engine.flow
+  pub arcs : (pages : Option Pages) (table : ℕ → ℕ → ℕ) → HoldsItems actors table (items_in e.engine.flow pages) e.engine.flow
+      → (actor port arc : ℕ) → actor < length e.engine.flow.seats.items → slice_get (arcs_read e.engine.flow.wires actor) port ≡ Some arc → left_on actors table (items_in e.engine.flow pages) e.engine.flow arc ≡ []
   pub plans : plans_left e.engine.flow ≡ []
 
 -- a finished operator is late with all that it loses
@@ -53,9 +75,26 @@ nothing-planned e sound done =
     none-past [] = refl
     none-past (x ∷ xs) = none-past xs
 
-pub shown-all : (e : Engine) → NothingLeft e → AllDone e.engine.flow → (r : Replay) (pages : Option Pages) (history : List Event) (begun steps : ℕ) → Tells pages
+-- the tuples of what an arc's giver gives are those that are kept
+kept-given : (r : Replay) → IsReadReplay r → StreamsFollow r → (a : ℕ) → a < length (arcs_of r.network.wires) → tuples_in (stream_of r (arc_from r.network a)) ≡ kept_of r a
+kept-given r read follow a low = ap tuples_in (follow.arcs a low) ∙ by (drop_above_arc r.network a) refl
+  where
+    by : (o : Option Drop) → drop_above_arc r.network a ≡ o → tuples_in (on_arc r a) ≡ kept_of r a
+    by None e =
+        ap (λ z. tuples_in (standing r z a)) e ∙ tuples_back (full_arc r.network r.sources a)
+        ∙ sym (ap (λ z. needed r z a (full_arc r.network r.sources a)) e)
+    by (Some d) e =
+        ap (λ z. tuples_in (standing r z a)) e
+        ∙ tuples-of-spread (marked_arc r d.0 d.1 a) (kept-ascends r (ranks-of r.network read.sound) read.streams a)
+
+-- a box reads the actor and the port that its arc comes from
+reads-arc : (n : Network) (at port arc : ℕ) → at < length n.boxes → slice_get (input_arcs_of n.wires at) port ≡ Some arc → slice_get (reads_of n (actor_at n at)) port ≡ Some (arc_from n arc)
+reads-arc n at port arc low is =
+    ap (λ x. slice_get (reads_of n x) port) (box-at n at low) ∙ slice_get-map (arc_from n) (input_arcs_of n.wires at) port ∙ ap (option_map (arc_from n)) is
+
+pub shown-all : (e : Engine) → NothingLeft e → AllDone e.engine.flow → ((r : Replay) → IsReadReplay r → StreamsFollow r) → (r : Replay) (pages : Option Pages) (history : List Event) (begun steps : ℕ) → Tells pages
     → IsRun r pages e history begun steps → ShownAll r e history begun steps
-shown-all e none done r pages history begun steps told run =
+shown-all e none done follow r pages history begun steps told run =
     let a = run.answers told in
     record {
       lines = λ output low.
@@ -69,6 +108,13 @@ shown-all e none done r pages history begun steps told run =
           ∙ ap (λ l. drops_of w history ++ l) (sym (none.drops pages (batch_level r) a.holds (e.engine.flow.wires.sheds + w) (omega (arith, shed, first, all))))
           ∙ a.drops w p there;
       plans = sym (append-nil (plans_of history)) ∙ ap (λ l. plans_of history ++ l) (sym none.plans) ∙ run.plans.shown;
+      took = λ at port arc low is.
+          let boxes = boxes_count r.network run.read.sound in
+          let there = input-low r.network at port arc (omega (arith, boxes, low)) is in
+          let left = a.arcs at port (arc_from r.network arc) (omega (arith, low)) (reads-arc r.network at port arc low is) in
+          let all = sym (append-nil (fed_on e.engine.flow at port))
+          ∙ ap (λ l. fed_on e.engine.flow at port ++ l) (sym (none.arcs pages (batch_level r) a.holds at port left.arc (box-in e r.network run.network run.sound at low) left.there)) ∙ left.whole in
+          ap tuples_in all ∙ kept-given r run.read (follow r run.read) arc there;
       fed = λ at low. sym (none.fed pages (batch_level r) a.holds at (box-in e r.network run.network run.sound at low)) ∙ a.fed at low;
       late = λ at low.
           late-seat e.engine.flow run.sound.engine.flow done at (box-in e r.network run.network run.sound at low)

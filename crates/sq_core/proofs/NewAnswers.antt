@@ -24,7 +24,7 @@ use Rattle.sq_flow.specs.declared.flow.Flow.{Flow}
 use Rattle.sq_flow.specs.declared.engine.Engine.{Engine}
 use Rattle.sq_flow.specs.Seats.{done_at}
 use Rattle.sq_flow.specs.Wiring.{net_of, arcs_read, numbers_in, IsShaped}
-use Rattle.sq_flow.specs.Flows.{tuples_to_come, RiseFrom, world_of, fed_at_last, sum_below}
+use Rattle.sq_flow.specs.Flows.{tuples_to_come, RiseFrom, world_of, fed_on, left_on, fed_at_last, sum_below}
 use Rattle.sq_flow.specs.Readiness.{stands, IsReady}
 use Rattle.sq_flow.specs.Engines.{seat_number, IsEngine}
 use Rattle.sq_start.specs.Numbers.{IsThere, first_output, ops_of, number_of, actor_at, reads_of}
@@ -89,8 +89,8 @@ module _ (r : Replay) (net : Net) (w : Holding) (order : List ℕ) (read : IsRea
 
 pub new-answers : (r : Replay) → IsReadReplay r → StartsAsReplayed → (flow : Flow Actor) (items : ℕ → List Item) → ((arc : ℕ) → items arc ≡ []) → IsNew r (net_of flow.wires) (world_of actors (batch_level r) items flow)
     → IsShaped flow.wires (ops_of r.network) → flow.wires.sheds ≡ length r.network.boxes → flow.wires.shown ≡ first_output r.network → length flow.seats.items ≡ ops_of r.network → flow.taken ≡ 0
-    → KeepsAnswers r items flow []
-new-answers r read law flow items none new shaped sheds shown many untaken =
+    → ((actor port : ℕ) → fed_on flow actor port ≡ []) → KeepsAnswers r items flow []
+new-answers r read law flow items none new shaped sheds shown many untaken unfed =
     let starts = law r (net_of flow.wires) (world_of actors (batch_level r) items flow) flow.wires.order.items read new shaped.wired shaped.ordered in
     record {
       holds = record { facts = starts.facts; queued = λ arc. rw (none arc) _ };
@@ -111,7 +111,7 @@ new-answers r read law flow items none new shaped sheds shown many untaken =
           omega (arith, sum, most, untaken);
       arcs = λ actor port giver low is.
           let whole = all-left r (net_of flow.wires) (world_of actors (batch_level r) items flow) flow.wires.order.items read new shaped.wired starts actor port giver low is in
-          record { arc = whole.0; there = whole.1; is_end = ([], sym whole.2) };
+          record { arc = whole.0; there = whole.1; whole = ap (λ l. l ++ left_on actors (batch_level r) items flow whole.0) (unfed actor port) ∙ whole.2 };
     }
 
 -- ---- what is to be released

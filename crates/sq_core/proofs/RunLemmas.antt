@@ -25,9 +25,7 @@ use Rattle.sq_flow.specs.declared.errors.RunErr.{RunErr}
 use Rattle.sq_flow.specs.Events.{lines_of, drops_of, IsEventIn}
 use Rattle.sq_flow.specs.declared.wires.Wires.{Wires}
 use Rattle.sq_flow.specs.Wiring.{arcs_read}
-use Rattle.sq_flow.proofs.ArcLemmas.{ends-chain}
-use Rattle.sq_below.specs.Actors.{stream_of}
-use Rattle.sq_flow.specs.Flows.{items_in, lines_left, decisions_left, left_on, fed_at_last, Stepped, ShowsPrefix, NoneStrange, CostsFed, StepCosts, TooMuchOnly, sum_below}
+use Rattle.sq_flow.specs.Flows.{items_in, lines_left, decisions_left, fed_at_last, Stepped, ShowsPrefix, NoneStrange, CostsFed, StepCosts, TooMuchOnly, sum_below}
 use Rattle.sq_flow.specs.Plans.{plans_of, plans_left, PlansPrefix}
 use Rattle.sq_flow.specs.Seats.{taken_at}
 use Rattle.sq_flow.specs.Engines.{IsEngine}
@@ -149,9 +147,7 @@ module _ (was is : Option Pages) (e e' : Engine) (events events' : List Event) (
               record {
                 arc = left.arc;
                 there = ap (λ (w : Wires). slice_get (arcs_read w actor) port) stepped.wires ∙ left.there;
-                is_end =
-                    ends-chain (stream_of r giver) (left_on actors (batch_level r) (items_in e.engine.flow was) e.engine.flow left.arc) (left_on actors (batch_level r) (items_in e'.engine.flow is) e'.engine.flow left.arc)
-                    left.is_end (goes.arcs left.arc (sound.engine.flow.shaped.arcs_in actor port left.arc left.there));
+                whole = sym (goes.arcs actor port left.arc left.there) ∙ left.whole;
               };
         }
 
@@ -161,6 +157,7 @@ module _ (was is : Option Pages) (e e' : Engine) (events events' : List Event) (
         let plans = plans-after r history run.plans in
         record {
           network = same ∙ run.network;
+          read = run.read;
           sound = sound-after run.sound;
           together = stepped.together;
           counted = (let counted = run.counted in omega (arith, counted, cost));

@@ -12,7 +12,7 @@ use Rattle.sq_actor.specs.declared.actor.Actor.{Actor}
 use Rattle.sq_flow.specs.declared.flow.Flow.{Flow}
 use Rattle.sq_flow.specs.Events.{lines_of, drops_of}
 use Rattle.sq_flow.specs.Wiring.{arcs_read}
-use Rattle.sq_flow.specs.Flows.{HoldsItems, lines_left, decisions_left, left_on, IsEndOf, fed_at_last, lost_at_last, work_at_last, turns_at_last}
+use Rattle.sq_flow.specs.Flows.{HoldsItems, lines_left, decisions_left, fed_on, left_on, fed_at_last, lost_at_last, work_at_last, turns_at_last}
 use Rattle.sq_flow.specs.Plans.{IsPlanned, plans_of, plans_left}
 use Rattle.sq_below.specs.Actors as below
 use Rattle.sq_below.specs.Actors.{stream_of}
@@ -27,17 +27,17 @@ pub record Plans (r : Replay) (flow : Flow Actor) (history : List Event) : Type 
   pub planned : IsPlanned (counts_in r) flow
   pub shown : plans_of history ++ plans_left flow ≡ plans_shown r
 
--- an arc leads to a port of an operator, and what is still to be taken from it, what stands on it and then what will still come,
--- ends what the replay says is given there in all
+-- an arc leads to a port of an operator, and what was fed there, and then what is still to be taken from the arc, what stands on it and
+-- then what will still come, is what the replay says is given there in all
 pub record ArcLeft (r : Replay) (items : ℕ → List Item) (flow : Flow Actor) (actor port : ℕ) (giver : below.Actor × ℕ) : Type 0 where
   pub arc : ℕ
   pub there : slice_get (arcs_read flow.wires actor) port ≡ Some arc
-  pub is_end : IsEndOf (left_on actors (batch_level r) items flow arc) (stream_of r giver)
+  pub whole : fed_on flow actor port ++ left_on actors (batch_level r) items flow arc ≡ stream_of r giver
 
 -- the lines that were shown at an output, and then those that are left, are its answer; the decisions of a drop that were shown,
 -- and then those that are left, are its record with the levels; and what each box will have been fed and have lost at the end,
--- and what all operators will have taken, is what the replay says; and of what it says is given to a port of an operator, the
--- last part is still to be taken from the arc there, and the rest was taken
+-- and what all operators will have taken, is what the replay says; and so is what was fed at each port of an operator, and then what is
+-- left of the arc there
 pub record KeepsAnswers (r : Replay) (items : ℕ → List Item) (flow : Flow Actor) (history : List Event) : Type 0 where
   pub holds : HoldsItems actors (batch_level r) items flow
   pub lines : (output : ℕ) → output < length r.network.wires.outputs

@@ -5,6 +5,7 @@ use Rattle.sq_oper.specs.declared.tally.Moment.TheVariants.{Start}
 use Rattle.sq_net.specs.declared.Network.{Network}
 use Rattle.sq_actor.specs.declared.actor.Actor as operator
 use Rattle.sq_flow.specs.declared.seats.Seat.{Seat}
+use Rattle.sq_flow.specs.Seats.{unfed}
 use Rattle.sq_start.specs.Numbers.{actor_at}
 use Rattle.sq_start.specs.NewOperators.{IsStarted}
 
@@ -16,6 +17,7 @@ none_fed = record { place = Start; taken = 0; running = true }
 pub record IsSeated (n : Network) (number actor : ℕ) (seat : Seat operator.Actor) : Type 0 where
   pub started : IsStarted n number (actor_at n actor) seat.op
   pub none : seat.tally ≡ none_fed
+  pub intake : seat.fed ≡ unfed
 
 abbrev pub AllSeated : Network → ℕ → List (Seat operator.Actor) → Type 0
 AllSeated n number seats = (actor : ℕ) (seat : Seat operator.Actor) → slice_get seats actor ≡ Some seat → IsSeated n number actor seat

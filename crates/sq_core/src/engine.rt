@@ -22,6 +22,7 @@ ghost use Rattle.sq_points.specs.Points.{drops_in};
 
 use crate::start::{network_engine, queued};
 use sq_actor::Actor;
+use sq_below::early_drop_is_sound;
 use sq_flow::{Progress, RunErr, State};
 use sq_net::Network;
 use sq_oper::Event;
@@ -221,13 +222,14 @@ impl Engine {
         let _engine = self;
     }
 
-    /// Where all actors are finished all answers were shown, and every tuple of the full streams was fed.
+    /// Where all actors are finished all answers were shown, and each box was fed, at each port, the kept tuples of its arc.
     pub fn all_shown(&self)
         requires sound { IsSoundEngine self.now }
         requires done { AllDone self.now.engine.flow }
         ensures { (r : Replay) (pages : Option Pages) (history : List Event) (begun steps : ℕ) → Tells pages
             → IsRun r pages self.now history begun steps → ShownAll r self.now history begun steps }
     {
+        early_drop_is_sound();
         self.engine.nothing_left();
     }
 

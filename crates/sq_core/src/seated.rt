@@ -5,10 +5,11 @@ ghost use Rattle.sq_net.specs.SoundNetworks.{IsSound};
 ghost use Rattle.sq_points.specs.Points.{points_of};
 ghost use Rattle.sq_points.specs.Limits.{KeepsDropLimits};
 ghost use Rattle.sq_start.specs.Numbers.{ops_of};
+ghost use Rattle.sq_flow.specs.Seats.{unfed};
 ghost use Rattle.sq_core.specs.NewSeats.{none_fed, AllSeated};
 
 use sq_actor::Actor;
-use sq_flow::Seat;
+use sq_flow::{Intake, Seat};
 use sq_net::Network;
 use sq_oper::Tally;
 use sq_place::DropPoint;
@@ -17,13 +18,14 @@ use std::alloc::{AllocError, Global};
 
 /// Each actor in a seat, in which nothing was fed.
 fn seats_of(alloc: Global, actors: Vec<Actor>) -> Result<Vec<Seat<Actor>>, AllocError>
-    ensures { IfOk result (λ v. v.items ≡ map (λ a. record { op = a; tally = none_fed }) actors.items) }
+    ensures { IfOk result (λ v. v.items ≡ map (λ a. record { op = a; tally = none_fed; fed = unfed }) actors.items) }
 {
     let mut seats = Vec::new(alloc);
     for op in actors {
         seats.push(Seat {
             op,
             tally: Tally::new(),
+            fed: Intake::new(),
         })?;
     }
     Ok(seats)

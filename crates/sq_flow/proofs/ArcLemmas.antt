@@ -1,15 +1,16 @@
--- What a step leaves of each arc.
-use Rattle.std.proofs.Common.{◌≡◌, ℕ, ◌<◌, eqb, Bool, true, false, ◌||◌, List, [], ◌∷◌, ◌++◌, length, refl, ap, sym, ◌∙◌, subst, append_assoc, arith, inl, inr}
+-- What a step feeds from each arc and what it leaves, and that nothing is left of an arc of an actor that is fed nothing more.
+use Rattle.std.proofs.Common.{◌≡◌, ◌≢◌, ℕ, zero, suc, ◌+◌, ◌<◌, eqb, Bool, true, false, ◌||◌, List, [], ◌∷◌, ◌++◌, length, Some, refl, ap, sym, ◌∙◌, subst, append_assoc, arith, inl, inr}
+use Rattle.std.specs.Prelude.{slice_get, map, if◌then◌else◌}
 use Rattle.std.proofs.lemmas.Bool.{cases_lt}
 use Rattle.sq_item.specs.Things.{Thing}
 use Rattle.sq_oper.specs.declared.outs.Decision.{Decision}
-use Rattle.sq_oper.specs.Entries.{Entry}
+use Rattle.sq_oper.specs.Entries.{Entry, at_port}
+use Rattle.sq_oper.specs.Order.{earlier, merge_under, merge_two, merge_from}
 use Rattle.sq_left.specs.Remainder.{Net, Holding, coming, left, is_known_actor, Facts}
 use Rattle.sq_left.proofs.Conserve.{Kept, ended-none}
 use Rattle.sq_left.proofs.ActorSteps.{Moves, left-moved}
 use Rattle.sq_flow.specs.declared.wires.Wires.{Wires}
-use Rattle.sq_flow.specs.Wiring.{net_of, IsShaped}
-use Rattle.sq_flow.specs.Flows.{IsEndOf}
+use Rattle.sq_flow.specs.Wiring.{net_of, arcs_read, IsShaped}
 use Rattle.sq_words.proofs.Numbers.{eqb_true}
 
 known-replay : (net : Net) (order : List ℕ) → is_known_actor net order net.replay ≡ true
@@ -25,7 +26,7 @@ module _ (wires : Wires) (ops : ℕ) (shaped : IsShaped wires ops) where
   net = net_of wires
 
   -- what an arc comes from is the replay or an operator
-  giver-known : (arc : ℕ) → arc < length wires.arcs.items → is_known_actor net wires.order.items (net.from arc) ≡ true
+  pub giver-known : (arc : ℕ) → arc < length wires.arcs.items → is_known_actor net wires.order.items (net.from arc) ≡ true
   giver-known arc low =
       elim (cases_lt (net.from arc) ops) [
         | inl op ↦ shaped.ordered (net.from arc) op
@@ -36,21 +37,48 @@ module _ (wires : Wires) (ops : ℕ) (shaped : IsShaped wires ops) where
             subst (λ k. is_known_actor net wires.order.items k ≡ true) is (known-replay net wires.order.items))
       ]
 
-  -- where a step takes things from the fronts of arcs, what is left of each is an end of what was left
-  pub arcs-left : (w w' : Holding) (taken : ℕ → List Thing) (pushed : ℕ → ℕ → List Thing) (decided : ℕ → List Decision) (took : ℕ → List Entry)
+  -- where a step feeds what it takes from the fronts of arcs, what was fed at a port, and then what is left of its arc, stays the same
+  pub arcs-fed : (w w' : Holding) (taken : ℕ → List Thing) (pushed : ℕ → ℕ → List Thing) (decided : ℕ → List Decision) (took : ℕ → List Entry) (fed fed' : ℕ → ℕ → List Thing)
       → Facts net w wires.order.items → Kept net w w' pushed decided took wires.order.items → Moves net w w' taken pushed
-      → (arc : ℕ) → arc < length wires.arcs.items → IsEndOf (left net w' wires.order.items arc) (left net w wires.order.items arc)
-  arcs-left w w' taken pushed decided took facts kept moves arc low =
-      let there = giver-known arc low in (
-        taken arc,
-        left-moved net w w' taken pushed (coming net w wires.order.items) (coming net w' wires.order.items) moves arc
-            (record {
-              inside = low;
-              moved = kept.streams (net.from arc) (net.port arc) there;
-              ended = ended-none net w wires.order.items facts (net.from arc) (net.port arc) there;
-            }),
-      )
+      → ((actor port arc : ℕ) → slice_get (arcs_read wires actor) port ≡ Some arc → fed' actor port ≡ fed actor port ++ taken arc)
+      → (actor port arc : ℕ) → slice_get (arcs_read wires actor) port ≡ Some arc
+      → fed actor port ++ left net w wires.order.items arc ≡ fed' actor port ++ left net w' wires.order.items arc
+  arcs-fed w w' taken pushed decided took fed fed' facts kept moves feeds actor port arc reads =
+      let low = shaped.arcs_in actor port arc reads in
+      let there = giver-known arc low in
+      let less = left-moved net w w' taken pushed (coming net w wires.order.items) (coming net w' wires.order.items) moves arc
+      (record {
+        inside = low;
+        moved = kept.streams (net.from arc) (net.port arc) there;
+        ended = ended-none net w wires.order.items facts (net.from arc) (net.port arc) there;
+      }) in
+      ap (λ l. fed actor port ++ l) less ∙ sym (append_assoc (fed actor port) (taken arc) (left net w' wires.order.items arc))
+      ∙ ap (λ l. l ++ left net w' wires.order.items arc) (sym (feeds actor port arc reads))
 
--- an end of an end is an end
-pub ends-chain : {A : Type 0} (xs ys zs : List A) → IsEndOf ys xs → IsEndOf zs ys → IsEndOf zs xs
-ends-chain xs ys zs a b = (a.0 ++ b.0, a.1 ∙ ap (λ l. a.0 ++ l) b.1 ∙ sym (append_assoc a.0 b.0 zs))
+-- a merge is empty of empty lists alone
+under-some : (x : Entry) (more : List Entry → List Entry) (ys : List Entry) → merge_under x more ys ≢ []
+under-some x more [] = λ e. cc e
+under-some x more (y ∷ ys) = by (earlier y x)
+  where
+    by : (b : Bool) → (if b then y ∷ merge_under x more ys else x ∷ more (y ∷ ys)) ≢ []
+    by true = λ e. cc e
+    by false = λ e. cc e
+
+none-of-two : (xs ys : List Entry) → merge_two xs ys ≡ [] → (xs ≡ []) × (ys ≡ [])
+none-of-two [] ys h = (refl, h)
+none-of-two (x ∷ xs) ys h = absurd (under-some x (merge_two xs) ys h)
+
+none-at-port : (port : ℕ) (xs : List Thing) → at_port port xs ≡ [] → xs ≡ []
+none-at-port port [] h = refl
+none-at-port port (x ∷ xs) h = cc h
+
+pub none-merged : (f : ℕ → List Thing) (arcs : List ℕ) (base port arc : ℕ) → merge_from base (map f arcs) ≡ [] → slice_get arcs port ≡ Some arc → f arc ≡ []
+none-merged f [] base port arc h is = cc is
+none-merged f (a ∷ arcs) base zero arc h is =
+    let same : a ≡ arc = cc is in
+    subst (λ k. f k ≡ []) same (none-at-port base (f a) (none-of-two (at_port base (f a)) (merge_from (base + 1) (map f arcs)) h).0)
+none-merged f (a ∷ arcs) base (suc port) arc h is = none-merged f arcs (base + 1) port arc (none-of-two (at_port base (f a)) (merge_from (base + 1) (map f arcs)) h).1 is
+
+pub front-none : {A : Type 0} (xs ys : List A) → xs ++ ys ≡ [] → xs ≡ []
+front-none [] ys h = refl
+front-none (x ∷ xs) ys h = cc h

@@ -1,21 +1,23 @@
 -- Where all are finished nothing is left; where some actor isn't, one is ready.
-use Rattle.std.proofs.Common.{◌≡◌, ◌≢◌, ℕ, zero, suc, ◌+◌, ◌<◌, ◌≤◌, eqb, Bool, true, false, ◌||◌, ◌⊎◌, inl, inr, IsTrue, List, [], ◌∷◌, length, Some, None, refl, ap, sym, ◌∙◌, subst, arith}
+use Rattle.std.proofs.Common.{◌≡◌, ◌≢◌, ℕ, zero, suc, ◌+◌, ◌<◌, ◌≤◌, eqb, Bool, true, false, ◌||◌, ◌⊎◌, inl, inr, IsTrue, List, [], ◌∷◌, ◌++◌, length, Some, None, refl, ap, sym, ◌∙◌, subst, arith}
 use Rattle.std.specs.Prelude.{slice_get, is_some}
 use Rattle.std.proofs.lemmas.Option.{slice_get_past}
 use Rattle.sq_item.specs.declared.Item.{Item}
 use Rattle.sq_oper.specs.declared.operator.Operator.{Ghosts}
 use Rattle.sq_oper.specs.Streams.{tuples_of, tuples_in}
-use Rattle.sq_left.specs.Remainder.{Net, is_known_actor, Each, IsLaidOut}
+use Rattle.sq_left.specs.Remainder.{Net, Holding, left_by, inputs_by, coming, is_known_actor, Each, IsLaidOut}
 use Rattle.sq_left.proofs.MergeLemmas.{eqb-no}
 use Rattle.sq_left.proofs.Conserve.{ended-none, ended-settled}
+use Rattle.sq_left.proofs.WorldSteps.{facts-at}
 use Rattle.sq_queue.specs.Faces.{face}
 use Rattle.sq_flow.specs.declared.flow.Flow.{Flow}
 use Rattle.sq_flow.specs.Wiring.{net_of, arcs_read, numbers_in}
 use Rattle.sq_flow.specs.Seats.{done_at, taken_at, lost_at}
-use Rattle.sq_flow.specs.Flows.{world_of, IsFlow, HoldsItems, lines_left, decisions_left, fed_at_last, lost_at_last, sum_below, work_at_last, taken_in_all}
+use Rattle.sq_flow.specs.Flows.{world_of, IsFlow, HoldsItems, lines_left, decisions_left, left_on, fed_at_last, lost_at_last, sum_below, work_at_last, taken_in_all}
 use Rattle.sq_flow.specs.Readiness.{IsReady, stands}
 use Rattle.sq_flow.specs.declared.engine.Engine.{Engine}
 use Rattle.sq_flow.specs.Engines.{AllDone, IsEngine, seat_number}
+use Rattle.sq_flow.proofs.ArcLemmas.{giver-known, none-merged, front-none}
 use Rattle.sq_flow.proofs.ReadyLemmas.{place-next, place-within}
 use Rattle.sq_words.specs.Lists.{contains_number}
 use Rattle.std.proofs.lemmas.Map.Views.{exact_unsigned_eq}
@@ -135,6 +137,23 @@ module _ {O : Type 0} (m : Ghosts O) (e : Flow O) (flow : IsFlow m e) where
         let r = flow.shaped.replay_is in
         let away : actor ≢ net.replay = omega (arith, r, low) in
         (ended-settled net (world_of m table items e) e.wires.order.items holds.facts actor (flow.shaped.ordered actor low) away (all actor (omega (arith, low)))).decided
+
+    abbrev w : Holding
+    w = world_of m table items e
+
+    -- a finished actor has taken all that stood on its arcs, and what gives one gives nothing more
+    pub all-taken : (actor port arc : ℕ) → actor < length e.seats.items → slice_get (arcs_read e.wires actor) port ≡ Some arc → left_on m table items e arc ≡ []
+    all-taken actor port arc low reads =
+        let r = flow.shaped.replay_is in
+        let away : actor ≢ net.replay = omega (arith, r, low) in
+        let inside = flow.shaped.arcs_in actor port arc reads in
+        let from = flow.shaped.from_in arc inside in
+        let settled = ended-settled net w e.wires.order.items holds.facts actor (flow.shaped.ordered actor low) away (all actor (omega (arith, low))) in
+        let at = facts-at net w e.wires.order.items flow.shaped.wired holds.facts actor (flow.shaped.ordered actor low) away in
+        let none : inputs_by net w at.coming_in actor ≡ [] = sym at.fed_is ∙ settled.none in
+        let queue = front-none (w.queue arc) (at.coming_in (net.from arc) (net.port arc)) (none-merged (left_by net w at.coming_in) (net.arcs actor) 0 port arc none reads) in
+        ap (λ l. l ++ coming net w e.wires.order.items (net.from arc) (net.port arc)) queue
+        ∙ ended-none net w e.wires.order.items holds.facts (net.from arc) (net.port arc) (giver-known e.wires (length e.seats.items) flow.shaped arc inside) (all (net.from arc) (omega (arith, from)))
 
     pub all-work : work_at_last m table items e ≡ taken_in_all m e
     all-work = sums-agree (fed_at_last m table items e) (λ actor. taken_at m (slice_get e.seats.items actor)) (length e.seats.items) all-fed

@@ -17,10 +17,10 @@ use Rattle.sq_oper.specs.Entries.{Entry, at_port, entries}
 use Rattle.sq_oper.specs.Order.{IsFuture, after_all}
 use Rattle.sq_oper.specs.Outflow.{given, ThingsUpTo}
 use Rattle.sq_oper.specs.Streams.{tuples_of, tuples_in}
-use Rattle.sq_oper.proofs.GivenLemmas.{ThingsUpTo-split, ThingsUpTo-later}
+use Rattle.sq_oper.proofs.GivenLemmas.{given-push, ThingsUpTo-split, ThingsUpTo-later}
 use Rattle.sq_left.specs.Remainder.{Net, Holding, coming, inputs, is_known_actor}
 use Rattle.sq_left.specs.Heads.{AllFine}
-use Rattle.sq_left.proofs.MergeLemmas.{AllOfTime, eqb-not}
+use Rattle.sq_left.proofs.MergeLemmas.{AllOfTime, eqb-no, eqb-not}
 use Rattle.sq_left.proofs.Conserve.{Kept}
 use Rattle.sq_left.proofs.ActorSteps.{EachPort, PortFacts, taken_at, Moves, FedActor, SameActor}
 use Rattle.sq_left.proofs.WorldSteps.{facts-at, next-is-future, next-is-first, spread-of-time, world-fed, replay-end}
@@ -41,17 +41,17 @@ use Rattle.sq_heads.specs.declared.Next.TheVariants.{Feed}
 use Rattle.sq_flow.specs.Wiring.{net_of, arcs_read, arc_wired, marked_of, fits_on, from_of, to_of, arc_place, pushed_by, AllOutsFine, IsOwn}
 use Rattle.sq_heads.specs.Heads.{NextUpTo}
 use Rattle.sq_flow.specs.Seats as seat
-use Rattle.sq_flow.specs.Seats.{rest_at, decides_at, lost_at, moment_at, done_at, holds_at, IsSeat, Owns, FedSeat}
+use Rattle.sq_flow.specs.Seats.{rest_at, decides_at, lost_at, intake_at, moment_at, done_at, holds_at, IsSeat, Owns, FedSeat}
 use Rattle.sq_flow.specs.Feeds.{FeedsPart}
 use Rattle.sq_flow.specs.Takes.{takes_of, fits_of, MayBeFed}
 use Rattle.sq_flow.specs.Events.{lines_of, of_drop, drops_of, ShowsIn}
 use Rattle.sq_flow.specs.Plans.{plans_left, plans_of}
-use Rattle.sq_flow.specs.Flows.{world_of, IsFlow, HoldsItems, Goes, Stepped, ShowsPrefix, CostsFed, StepCosts, TooMuchOnly, lines_left, decisions_left, fed_at_last, sum_below, taken_in_all, work_at_last, turns_at_last}
+use Rattle.sq_flow.specs.Flows.{world_of, IsFlow, HoldsItems, Goes, Stepped, ShowsPrefix, CostsFed, StepCosts, TooMuchOnly, fed_on, lines_left, decisions_left, fed_at_last, sum_below, taken_in_all, work_at_last, turns_at_last}
 use Rattle.sq_flow.specs.declared.errors.RunErr.{RunErr}
 use Rattle.sq_flow.proofs.FutureLemmas.{future-weaker, future-port, ports-from-head, moves-fed, outs-fine, own-pushed, not-pushed, apart-from, fine-after, goes-on, prefix-chain}
 use Rattle.sq_flow.proofs.SendLemmas.{at_or_other}
 use Rattle.sq_flow.proofs.EventLemmas.{stays-is}
-use Rattle.sq_flow.proofs.ArcLemmas.{arcs-left}
+use Rattle.sq_flow.proofs.ArcLemmas.{arcs-fed}
 use Rattle.sq_flow.proofs.DropLemmas.{all-split, of-own, own-front, future-both}
 use Rattle.std.proofs.lemmas.Map.Views.{exact_unsigned_eq}
 use Rattle.sq_oper.proofs.StreamLemmas.{tuples_append}
@@ -410,6 +410,33 @@ module _ {O : Type 0} (m : Ghosts O) (e : Flow O) (flow : IsFlow m e) (actor tic
             queued = fine e.clock (outs-in-time s' outs drops fed may) (fine-after e.clock at items mid item whole others holds.queued);
           }
 
+      -- the arc at a port is the one that was taken from where the port is the one that was fed
+      same-arc : (port arc : ℕ) → slice_get (arcs_read e.wires actor) port ≡ Some arc → eqb p port ≡ eqb arc at
+      same-arc port arc reads = by (eqb p port) refl
+        where
+          by : (b : Bool) → eqb p port ≡ b → b ≡ eqb arc at
+          by true t =
+              let here : p ≡ port = exact_unsigned_eq p port t in
+              let same : arc ≡ at = same_Some arc at (sym reads ∙ ap (slice_get (arcs_read e.wires actor)) (sym here) ∙ head.1) in
+              sym (eqb_true arc at same)
+          by false t =
+              let away : p ≢ port = eqb-no p port t in
+              sym (eqb-not arc at (λ same.
+              away (sym (flow.shaped.joined actor p at head.1).1 ∙ ap (λ k. arc_place (slice_get e.wires.arcs.items k)) (sym same) ∙ (flow.shaped.joined actor port arc reads).1)))
+
+      -- what was taken from an arc was fed at its port
+      feeds : (other port arc : ℕ) → slice_get (arcs_read e.wires other) port ≡ Some arc → fed_on e' other port ≡ fed_on e other port ++ taken_at at (spread item) arc
+      feeds other =
+          at_or_other (λ k. (port arc : ℕ) → slice_get (arcs_read e.wires k) port ≡ Some arc → fed_on e' k port ≡ fed_on e k port ++ taken_at at (spread item) arc) actor
+          (λ port arc reads.
+          ap (λ (o : Option (Seat O)). given port (intake_at o)) is_after ∙ ap (given port) fed.came ∙ given-push port p s.fed.items item
+          ∙ ap (λ (o : Option (Seat O)). given port (intake_at o) ++ cond (eqb p port) (spread item) []) (sym is_seat)
+          ∙ ap (λ b. fed_on e actor port ++ cond b (spread item) []) (same-arc port arc reads))
+          (λ k ne port arc reads.
+          let away : arc ≢ at = λ same. ne (sym (flow.shaped.joined k port arc reads).0 ∙ ap (λ j. to_of (slice_get e.wires.arcs.items j)) same ∙ (flow.shaped.joined actor p at head.1).0) in
+          ap (λ (o : Option (Seat O)). given port (intake_at o)) (apart k ne) ∙ sym (append-nil (fed_on e k port))
+          ∙ ap (λ b. fed_on e k port ++ cond b (spread item) []) (sym (eqb-not arc at away))) other
+
       pub turns-same : taken' ≡ e.taken + length (spread item)
           → turns_at_last m table items e ≡ taken' + sum_below (λ other. length (inputs net is e.wires.order.items other)) (length e.seats.items)
       turns-same more =
@@ -453,7 +480,7 @@ module _ {O : Type 0} (m : Ghosts O) (e : Flow O) (flow : IsFlow m e) (actor tic
                 let is = flow.shaped.replay_is in
                 let away : other ≢ net.replay = omega arith in
                 (k.told other (flow.shaped.ordered other low) away).lost;
-            arcs = arcs-left e.wires (length e.seats.items) flow.shaped was is (taken_at at (spread item)) (pushed_by actor outs) decided took holds.facts k moves-all;
+            arcs = arcs-fed e.wires (length e.seats.items) flow.shaped was is (taken_at at (spread item)) (pushed_by actor outs) decided took (fed_on e) (fed_on e') holds.facts k moves-all feeds;
             turns = turns-same more ∙ ap (λ n. taken' + sum_below (λ other. length (inputs net is e.wires.order.items other)) n) (sym seats_len);
           }
 

@@ -1,5 +1,5 @@
 -- What the end of an operator keeps.
-use Rattle.std.proofs.Common.{◌≡◌, ◌≢◌, ℕ, ◌+◌, ◌<◌, eqb, cond, Bool, true, false, not, ◌||◌, List, [], ◌∷◌, ◌++◌, length, Option, Some, None, refl, ap, sym, ◌∙◌, arith, subst, ◌-◌}
+use Rattle.std.proofs.Common.{◌≡◌, ◌≢◌, ℕ, ◌+◌, ◌<◌, eqb, cond, Bool, true, false, not, ◌||◌, List, [], ◌∷◌, ◌++◌, length, Option, Some, None, refl, ap, sym, ◌∙◌, append-nil, arith, subst, ◌-◌}
 use Rattle.std.specs.Prelude.{is_some, slice_get, Vec}
 use Rattle.std.specs.List.{AllByRecursion}
 use Rattle.std.specs.declared.alloc.Global.{Global}
@@ -28,6 +28,7 @@ use Rattle.sq_flow.specs.Readiness.{TouchesOnly}
 use Rattle.sq_flow.proofs.TouchLemmas.{away-from, stands-pushed, stands-grows}
 use Rattle.sq_oper.specs.Entries.{Entry}
 use Rattle.sq_flow.proofs.WireLemmas.{sent-is}
+use Rattle.sq_flow.specs.declared.intake.Intake.{Intake}
 use Rattle.sq_flow.specs.declared.seats.Seat.{Seat}
 use Rattle.sq_flow.specs.declared.flow.Flow.{Flow}
 use Rattle.sq_heads.specs.declared.Next.TheVariants.{Ended}
@@ -35,13 +36,13 @@ use Rattle.sq_flow.specs.Wiring.{net_of, arcs_read, from_of, pushed_by, AllOutsF
 use Rattle.sq_heads.specs.Heads.{NextUpTo}
 use Rattle.sq_flow.specs.Feeds.{EndsPart}
 use Rattle.sq_flow.specs.Seats as seat
-use Rattle.sq_flow.specs.Seats.{rest_at, decides_at, lost_at, moment_at, done_at, holds_at, IsSeat, Owns, FinishedSeat}
+use Rattle.sq_flow.specs.Seats.{rest_at, decides_at, lost_at, intake_at, moment_at, done_at, holds_at, IsSeat, Owns, FinishedSeat}
 use Rattle.sq_flow.specs.Events.{lines_of, of_drop, drops_of, ShowsIn}
 use Rattle.sq_flow.specs.Plans.{plans_left, plans_of}
-use Rattle.sq_flow.specs.Flows.{world_of, IsFlow, HoldsItems, Goes, Stepped, ShowsPrefix, lines_left, decisions_left, sum_below, taken_in_all, turns_at_last}
+use Rattle.sq_flow.specs.Flows.{world_of, IsFlow, HoldsItems, Goes, Stepped, ShowsPrefix, fed_on, lines_left, decisions_left, sum_below, taken_in_all, turns_at_last}
 use Rattle.sq_flow.proofs.FutureLemmas.{outs-fine, own-pushed, not-pushed, goes-on, prefix-chain}
 use Rattle.sq_flow.proofs.SendLemmas.{at_or_other}
-use Rattle.sq_flow.proofs.ArcLemmas.{arcs-left}
+use Rattle.sq_flow.proofs.ArcLemmas.{arcs-fed}
 use Rattle.sq_flow.proofs.EventLemmas.{stays-is}
 use Rattle.sq_flow.proofs.DropLemmas.{all-split, of-own, own-front}
 use Rattle.sq_oper.specs.Streams.{tuples_in}
@@ -254,6 +255,13 @@ module _ {O : Type 0} (m : Ghosts O) (e : Flow O) (flow : IsFlow m e) (actor : �
             queued = fine e.clock (outs-in-time s' outs drops fin) holds.queued;
           }
 
+      -- nothing was fed
+      fed-same : (other port : ℕ) → fed_on e' other port ≡ fed_on e other port
+      fed-same other port =
+          at_or_other (λ k. fed_on e' k port ≡ fed_on e k port) actor
+          (ap (λ (o : Option (Seat O)). given port (intake_at o)) is_after ∙ ap (λ (i : Intake). given port i.items) fin.none_came ∙ ap (λ (o : Option (Seat O)). given port (intake_at o)) (sym is_seat))
+          (λ k ne. ap (λ (o : Option (Seat O)). given port (intake_at o)) (apart k ne)) other
+
       turns-same : turns_at_last m table items e ≡ e.taken + sum_below (λ other. length (inputs net is e.wires.order.items other)) (length e.seats.items)
       turns-same =
           let k = kept in
@@ -290,7 +298,8 @@ module _ {O : Type 0} (m : Ghosts O) (e : Flow O) (flow : IsFlow m e) (actor : �
                 let is = flow.shaped.replay_is in
                 let away : other ≢ net.replay = omega arith in
                 (k.told other (flow.shaped.ordered other low) away).lost;
-            arcs = arcs-left e.wires (length e.seats.items) flow.shaped was is (λ _. []) (pushed_by actor outs) decided (λ _. []) holds.facts k (λ arc within. sym (given_on arc within));
+            arcs = arcs-fed e.wires (length e.seats.items) flow.shaped was is (λ _. []) (pushed_by actor outs) decided (λ _. []) (fed_on e) (fed_on e') holds.facts k (λ arc within. sym (given_on arc within))
+                (λ other port arc reads. fed-same other port ∙ sym (append-nil (fed_on e other port)));
             turns = turns-same ∙ ap (λ n. e.taken + sum_below (λ other. length (inputs net is e.wires.order.items other)) n) (sym seats_len);
           }
 

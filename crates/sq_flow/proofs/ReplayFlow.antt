@@ -38,9 +38,9 @@ use Rattle.sq_flow.specs.declared.flow.Flow.{Flow}
 use Rattle.sq_flow.specs.Wiring.{net_of, arcs_from, times_in, from_of, IsOwn}
 use Rattle.sq_flow.specs.Seats.{done_at, holds_at, IsSeat}
 use Rattle.sq_flow.specs.Events.{lines_of, drops_of}
-use Rattle.sq_flow.specs.Flows.{world_of, IsFlow, HoldsItems, Goes, Stepped, ShowsPrefix, RiseFrom, to_release, tuples_to_come, lines_left, decisions_left, turns_at_last, count_all}
+use Rattle.sq_flow.specs.Flows.{world_of, IsFlow, HoldsItems, Goes, Stepped, ShowsPrefix, RiseFrom, to_release, tuples_to_come, fed_on, lines_left, decisions_left, turns_at_last, count_all}
 use Rattle.sq_flow.proofs.SendLemmas.{at_or_other, apart-arcs}
-use Rattle.sq_flow.proofs.ArcLemmas.{arcs-left}
+use Rattle.sq_flow.proofs.ArcLemmas.{arcs-fed}
 use Rattle.sq_words.specs.Lists.{contains_number}
 use Rattle.sq_flow.proofs.WiringWords.{sent}
 use Rattle.std.proofs.lemmas.Map.Views.{exact_unsigned_eq}
@@ -144,7 +144,8 @@ module _ {O : Type 0} (m : Ghosts O) (e : Flow O) (flow : IsFlow m e) (table : �
             let r = flow.shaped.replay_is in
             let away : other ≢ net.replay = omega (arith, r, low) in
             (k.told other (flow.shaped.ordered other low) away).lost;
-        arcs = arcs-left e.wires (length e.seats.items) flow.shaped was is (λ _. []) pushed (λ _. []) (λ _. []) holds.facts k (λ arc within. sym (given_on arc within));
+        arcs = arcs-fed e.wires (length e.seats.items) flow.shaped was is (λ _. []) pushed (λ _. []) (λ _. []) (fed_on e) (fed_on e') holds.facts k (λ arc within. sym (given_on arc within))
+            (λ other port arc reads. sym (append-nil (fed_on e other port)));
         turns = turns-same;
       }
 

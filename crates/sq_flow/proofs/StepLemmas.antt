@@ -1,6 +1,6 @@
 -- Steps, one after another.
-use Rattle.std.proofs.Common.{◌≡◌, ℕ, ◌+◌, ◌-◌, ◌<◌, ◌++◌, Bool, true, false, ◌||◌, List, [], length, Option, Some, None, refl, ap, sym, ◌∙◌, subst, arith}
-use Rattle.std.specs.Prelude.{is_some}
+use Rattle.std.proofs.Common.{◌≡◌, ℕ, ◌+◌, ◌-◌, ◌<◌, ◌++◌, Bool, true, false, ◌||◌, List, length, Option, Some, None, refl, ap, sym, ◌∙◌, subst, arith}
+use Rattle.std.specs.Prelude.{is_some, slice_get}
 use Rattle.sq_outside.specs.Disks.{Pages}
 use Rattle.sq_road.specs.Levels.{LevelTable, AgreesWith}
 use Rattle.sq_oper.specs.declared.operator.Operator.{Ghosts}
@@ -18,9 +18,8 @@ use Rattle.sq_flow.specs.Plans.{PlansPrefix, plans_of}
 use Rattle.sq_plan.specs.Plans.{Setting}
 use Rattle.sq_plan.specs.PlanRows.{level_for}
 use Rattle.sq_words.specs.Lists.{IsPrefixOf}
-use Rattle.sq_flow.specs.Flows.{IsFlow, HoldsItems, Stepped, ShowsPrefix, NoneStrange, CostsFed, StepCosts, TooMuchOnly, items_in, decisions_left, left_on, fed_at_last, sum_below, work_at_last}
+use Rattle.sq_flow.specs.Flows.{IsFlow, HoldsItems, Stepped, ShowsPrefix, NoneStrange, CostsFed, StepCosts, TooMuchOnly, items_in, decisions_left, fed_at_last, sum_below, work_at_last}
 use Rattle.sq_flow.proofs.CauseLemmas.{changed-since}
-use Rattle.sq_flow.proofs.ArcLemmas.{ends-chain}
 use Rattle.sq_flow.specs.Readiness.{IsReady}
 use Rattle.sq_flow.proofs.DoneLemmas.{sums-agree}
 
@@ -48,7 +47,7 @@ module _ {O : Type 0} (m : Ghosts O) where
               fed = λ actor low. refl;
               lost = λ actor low. refl;
               turns = refl;
-              arcs = λ arc low. ([], refl);
+              arcs = λ actor port arc reads. refl;
             };
       }
 
@@ -88,9 +87,8 @@ module _ {O : Type 0} (m : Ghosts O) where
                 fed = λ actor low. a.fed actor low ∙ b.fed actor (rw first.seats low);
                 lost = λ actor low. a.lost actor low ∙ b.lost actor (rw first.seats low);
                 turns = a.turns ∙ b.turns;
-                arcs = λ arc low.
-                    ends-chain (left_on m table (items_in f p) f arc) (left_on m table (items_in f1 p1) f1 arc) (left_on m table (items_in f2 p2) f2 arc) (a.arcs arc low)
-                    (b.arcs arc (subst (λ (w : Wires). arc < length w.arcs.items) (sym first.wires) low));
+                arcs = λ actor port arc reads.
+                    a.arcs actor port arc reads ∙ b.arcs actor port arc (subst (λ (w : Wires). slice_get (arcs_read w actor) port ≡ Some arc) (sym first.wires) reads);
               };
         }
 

@@ -1,5 +1,5 @@
 -- What a step of an engine promises.
-use Rattle.std.specs.Prelude.{◌≡◌, ℕ, true, length}
+use Rattle.std.specs.Prelude.{◌≡◌, true, length}
 use Rattle.sq_sched.specs.declared.policy.Pick.{Pick}
 use Rattle.sq_oper.specs.declared.operator.Operator.{Ghosts}
 use Rattle.sq_flow.specs.declared.engine.Engine.{Engine}

@@ -10,7 +10,7 @@ use Rattle.sq_words.specs.Lists.{IsPrefixOf}
 use Rattle.sq_oper.specs.declared.operator.Operator.{Ghosts}
 use Rattle.sq_oper.specs.declared.outs.Decision.{Decision}
 use Rattle.sq_oper.specs.declared.outs.Event.{Event}
-use Rattle.sq_oper.specs.Outflow.{ThingsUpTo}
+use Rattle.sq_oper.specs.Outflow.{given, ThingsUpTo}
 use Rattle.sq_oper.specs.Streams.{things, IsSoundTuple, tuples_in}
 use Rattle.sq_left.specs.Remainder.{Holding, Facts, coming, inputs, left, still_dropped, lost_in_all, fed_in_all}
 use Rattle.sq_left.specs.Heads.{AllFine}
@@ -25,8 +25,8 @@ use Rattle.sq_flow.specs.declared.flow.Did.{Did}
 use Rattle.sq_flow.specs.declared.flow.Did.TheVariants.{Waits, Fed, Finished}
 use Rattle.sq_flow.specs.Takes.{NotChanged}
 use Rattle.sq_flow.specs.Causes.{IsFeedCause}
-use Rattle.sq_flow.specs.Wiring.{net_of, from_of, IsOwn, IsShaped}
-use Rattle.sq_flow.specs.Seats.{rest_at, decides_at, lost_at, taken_at, moment_at, done_at, holds_at, IsSeat, Owns}
+use Rattle.sq_flow.specs.Wiring.{net_of, from_of, arcs_read, IsOwn, IsShaped}
+use Rattle.sq_flow.specs.Seats.{rest_at, decides_at, lost_at, taken_at, intake_at, moment_at, done_at, holds_at, IsSeat, Owns}
 use Rattle.sq_flow.specs.Events.{lines_of, drops_of, ShowsIn}
 use Rattle.sq_flow.specs.Plans.{IsPlanned, plans_left, plans_of}
 
@@ -101,9 +101,9 @@ decisions_left m table items flow actor = still_dropped (net_of flow.wires) (wor
 abbrev pub left_on : {O : Type 0} → Ghosts O → (ℕ → ℕ → ℕ) → (ℕ → List Item) → Flow O → ℕ → List Thing
 left_on m table items flow arc = left (net_of flow.wires) (world_of m table items flow) flow.wires.order.items arc
 
--- the one ends the other: what stands before it was taken
-abbrev pub IsEndOf : {A : Type 0} → List A → List A → Type 0
-IsEndOf {A} xs ys = (taken : List A) × (ys ≡ taken ++ xs)
+-- what an operator was fed at a port
+abbrev pub fed_on : {O : Type 0} → Flow O → ℕ → ℕ → List Thing
+fed_on flow actor port = given port (intake_at (slice_get flow.seats.items actor))
 
 -- how many tuples an operator will have been fed at the end, and how many of them it will have lost
 abbrev pub fed_at_last : {O : Type 0} → Ghosts O → (ℕ → ℕ → ℕ) → (ℕ → List Item) → Flow O → ℕ → ℕ
@@ -128,8 +128,8 @@ abbrev pub turns_at_last : {O : Type 0} → Ghosts O → (ℕ → ℕ → ℕ) �
 turns_at_last m table items flow =
     flow.taken + sum_below (λ actor. length (inputs (net_of flow.wires) (world_of m table items flow) flow.wires.order.items actor)) (length flow.seats.items)
 
--- what was shown, and then what is left, stays the same, and so do the numbers of what is fed, lost and taken in all; of each
--- arc things are taken from the front alone
+-- what was shown, and then what is left, stays the same, and so do the numbers of what is fed, lost and taken in all; and at each
+-- port of each operator what was fed there, and then what is left of its arc, stays the same
 pub record Goes {O : Type 0} (m : Ghosts O) (table : ℕ → ℕ → ℕ) (items items' : ℕ → List Item) (flow flow' : Flow O)
     (events events' : List Event) : Type 0 where
   pub lines : (output : ℕ) → flow.wires.shown + output < length flow.seats.items
@@ -140,7 +140,8 @@ pub record Goes {O : Type 0} (m : Ghosts O) (table : ℕ → ℕ → ℕ) (items
   pub fed : (actor : ℕ) → actor < length flow.seats.items → fed_at_last m table items flow actor ≡ fed_at_last m table items' flow' actor
   pub lost : (actor : ℕ) → actor < length flow.seats.items → lost_at_last m table items flow actor ≡ lost_at_last m table items' flow' actor
   pub turns : turns_at_last m table items flow ≡ turns_at_last m table items' flow'
-  pub arcs : (arc : ℕ) → arc < length flow.wires.arcs.items → IsEndOf (left_on m table items' flow' arc) (left_on m table items flow arc)
+  pub arcs : (actor port arc : ℕ) → slice_get (arcs_read flow.wires actor) port ≡ Some arc
+      → fed_on flow actor port ++ left_on m table items flow arc ≡ fed_on flow' actor port ++ left_on m table items' flow' arc
 
 -- at each table that agrees with these levels, and at which the flow held the items that stood on its arcs, this holds, where the
 -- disk is known behind the call

@@ -1,5 +1,5 @@
 -- Operators in their seats: an operator with what the run keeps of what it was fed.
-use Rattle.std.specs.Prelude.{◌≡◌, ℕ, ◌+◌, ◌≤◌, Bool, true, false, not, List, [], ◌++◌, Option, Some, None, is_some, if◌then◌else◌}
+use Rattle.std.specs.Prelude.{◌≡◌, ℕ, ◌+◌, ◌≤◌, Bool, true, false, not, List, [], ◌∷◌, ◌++◌, Option, Some, None, is_some, if◌then◌else◌}
 use Rattle.std.specs.List.{AllByRecursion}
 use Rattle.sq_value.specs.declared.Value.{Value}
 use Rattle.sq_item.specs.Things.{Thing}
@@ -12,7 +12,12 @@ use Rattle.sq_item.specs.declared.Item.{Item}
 use Rattle.sq_road.specs.Levels.{LevelTable, AgreesWith}
 use Rattle.sq_oper.specs.Outflow.{given, ItemsSound, ThingsUpTo}
 use Rattle.sq_oper.specs.Order.{IsFuture, after_all}
+use Rattle.sq_flow.specs.declared.intake.Intake.{Intake}
 use Rattle.sq_flow.specs.declared.seats.Seat.{Seat}
+
+-- no item was fed
+abbrev pub unfed : Intake
+unfed = record { marker = record {}; items = [] }
 
 -- what the operator in a seat says, and a default where there is none
 abbrev pub rest_at : {O : Type 0} → Ghosts O → (ℕ → ℕ → ℕ) → Option (Seat O) → List Entry → ℕ → List Thing
@@ -30,6 +35,10 @@ lost_at m (Some seat) future = m.lost seat.op future
 abbrev pub taken_at : {O : Type 0} → Ghosts O → Option (Seat O) → ℕ
 taken_at m None = 0
 taken_at m (Some seat) = m.taken seat.op
+
+abbrev pub intake_at : {O : Type 0} → Option (Seat O) → List (ℕ × Item)
+intake_at None = []
+intake_at (Some seat) = seat.fed.items
 
 abbrev pub moment_at : {O : Type 0} → Ghosts O → Option (Seat O) → Moment
 moment_at m None = Start
@@ -81,7 +90,7 @@ pub record SeatAfter {O : Type 0} (m : Ghosts O) (came : List Entry) (tuples : �
   pub place : seat'.tally.place ≡ after_all seat.tally.place came
   pub taken : seat'.tally.taken ≡ seat.tally.taken + tuples
 
--- what a feed does to a seat: it gives these items and drops these batches
+-- what a feed does to a seat: it gives these items and drops these batches, and the item is the last that was fed
 pub record FedSeat {O : Type 0} (m : Ghosts O) (levels : LevelTable) (port : ℕ) (item : Item) (outs : List (ℕ × Item)) (drops : List Decision)
     (seat seat' : Seat O) : Type 0 where
   pub law : (table : ℕ → ℕ → ℕ) (future : List Entry) → AgreesWith levels table → IsFutureOf m seat.op (entries port item ++ future)
@@ -94,8 +103,9 @@ pub record FedSeat {O : Type 0} (m : Ghosts O) (levels : LevelTable) (port : ℕ
   pub after : SeatAfter m (entries port item) (if is_some item.body then 1 else 0) true seat seat'
   pub reads : m.reads seat'.op ≡ m.reads seat.op
   pub open_still : seat'.tally.running ≡ seat.tally.running
+  pub came : seat'.fed.items ≡ seat.fed.items ++ (port, item) ∷ []
 
--- what an end does to a seat: nothing more comes, and nothing is left
+-- what an end does to a seat: nothing more comes, nothing is left, and no item was fed
 pub record FinishedSeat {O : Type 0} (m : Ghosts O) (outs : List (ℕ × Item)) (drops : List Decision) (seat seat' : Seat O) : Type 0 where
   pub law : (table : ℕ → ℕ → ℕ) (q : ℕ) → m.rest seat.op table [] q ≡ given q outs
   pub decided : (table : ℕ → ℕ → ℕ) → m.decides seat.op table [] ≡ drops
@@ -105,3 +115,4 @@ pub record FinishedSeat {O : Type 0} (m : Ghosts O) (outs : List (ℕ × Item)) 
   pub sound : ItemsSound outs
   pub after : SeatAfter m [] 0 false seat seat'
   pub closed : seat'.tally.running ≡ false
+  pub none_came : seat'.fed ≡ seat.fed

@@ -1,6 +1,6 @@
 //! The engine: a flow with its ready list.
 
-ghost use Rattle.std.specs.Prelude.{◌≡◌, ◌⊎◌, ◌-◌, ◌^◌, ℕ, ◌+◌, ◌≤◌, ◌<◌, true, false, [], ◌∷◌, Option, OnOk, OnErr, IfOk, IfErr, length, map, slice_get};
+ghost use Rattle.std.specs.Prelude.{◌≡◌, ◌⊎◌, ◌-◌, ◌^◌, ℕ, ◌+◌, ◌≤◌, ◌<◌, true, false, [], ◌∷◌, Option, Some, OnOk, OnErr, IfOk, IfErr, length, map, slice_get};
 ghost use Rattle.sq_road.specs.Levels.{AgreesWith};
 ghost use Rattle.sq_outside.specs.Disks.{Pages};
 ghost use Rattle.sq_pool.specs.Trust.{IsLater, known};
@@ -118,14 +118,14 @@ impl<O: Operator + Drop> Flow<O> {
 impl<O: Operator + Drop> Engine<O> {
     ghost use Rattle.sq_flow.specs.Flows.{IsFlow, HoldsItems, items_in, lines_left, decisions_left};
     ghost use Rattle.sq_flow.specs.Flows.{fed_at_last, RiseFrom, tuples_to_come, lost_at_last};
-    ghost use Rattle.sq_flow.specs.Flows.{work_at_last, taken_in_all};
+    ghost use Rattle.sq_flow.specs.Flows.{work_at_last, taken_in_all, left_on};
     ghost use Rattle.sq_flow.specs.Plans.{IsPlanned, arrivals, last_arrival, plans_left};
     ghost use Rattle.sq_flow.specs.Stepping.{stage, StepErr};
     ghost use Rattle.sq_flow.specs.EngineSteps.{EngineOk};
     ghost use Rattle.sq_flow.specs.Engines.{IsEngine, HasSeats, Looked, AllDone, newly_ready, readers_of};
     ghost use Rattle.sq_flow.specs.Seats.{taken_at, lost_at, holds_at};
     ghost use Rattle.sq_flow.specs.Starts.{IsNewSeat, IsNewFlow};
-    ghost use Rattle.sq_flow.specs.Wiring.{net_of, IsOwn, IsShaped};
+    ghost use Rattle.sq_flow.specs.Wiring.{net_of, arcs_read, IsOwn, IsShaped};
 
     /// An engine over operators that nothing was fed to, with what each source is to release, in the order of times. It has
     /// released nothing yet; the ready actors are listed in ascending number. An error says that memory ran out.
@@ -284,7 +284,7 @@ impl<O: Operator + Drop> Engine<O> {
         }
     }
 
-    /// Where all actors are finished nothing is left of any output or drop, and each operator was fed all that it is fed in all.
+    /// Where all actors are finished nothing is left of any output, drop or arc, and each operator was fed all that it is fed in all.
     pub fn nothing_left(&self)
         requires engine { IsFlow O.Operator self.now.flow }
         requires done { AllDone self.now.flow }
@@ -303,6 +303,9 @@ impl<O: Operator + Drop> Engine<O> {
             ≡ lost_at O.Operator (slice_get self.now.flow.seats.items actor) [] }
         ensures work { (pages : Option Pages) (table : ℕ → ℕ → ℕ) → HoldsItems O.Operator table (items_in self.now.flow pages) self.now.flow
             → work_at_last O.Operator table (items_in self.now.flow pages) self.now.flow ≡ taken_in_all O.Operator self.now.flow }
+        ensures arcs { (pages : Option Pages) (table : ℕ → ℕ → ℕ) → HoldsItems O.Operator table (items_in self.now.flow pages) self.now.flow
+            → (actor port arc : ℕ) → actor < length self.now.flow.seats.items → slice_get (arcs_read self.now.flow.wires actor) port ≡ Some arc
+            → left_on O.Operator table (items_in self.now.flow pages) self.now.flow arc ≡ [] }
     {
         let _engine = self;
     }

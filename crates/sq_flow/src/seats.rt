@@ -14,6 +14,7 @@ ghost use Rattle.sq_flow.specs.Feeds.{FeedsInto, FeedsPart, EndsInto, EndsPart};
 ghost use Rattle.sq_words.specs.Lists.{contains_number};
 
 use crate::errors::RunErr;
+use crate::intake::Intake;
 use crate::noted::Noted;
 use crate::onward::{Onward, fault_of};
 use crate::wires::Wires;
@@ -24,11 +25,12 @@ use sq_queue::Queues;
 use sq_road::Levels;
 use std::sync::ledger::Ledger;
 
-/// An operator, with what the run keeps of what it was fed.
+/// An operator, with what the run keeps of what it was fed, and which items these were.
 #[derive(Drop)]
 pub struct Seat<O> {
     pub op: O,
     pub tally: Tally,
+    pub fed: Intake,
 }
 
 /// Feeds an operator one item. What it gives goes on at once.
@@ -71,6 +73,7 @@ pub(crate) fn feed_into<O: Operator, D: PageDisk, L: Ledger>(
     ensures no_cost { OnErr result (steps.new ≡ steps.old) }
 {
     seat.tally.note(port, &item);
+    seat.fed = seat.fed.with(port, &item);
     let mut onward = Onward {
         wires,
         queues,

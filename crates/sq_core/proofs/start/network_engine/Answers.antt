@@ -9,7 +9,7 @@ use Rattle.sq_start.specs.Starts.{IsReadReplay}
 use Rattle.sq_core.specs.Meanings.{actors}
 use Rattle.sq_core.specs.Table.{IsTabled}
 use Rattle.sq_core.proofs.TableLemmas.{if-three}
-use Rattle.sq_core.proofs.NewFlow.{new-seats, is-new, none-fed}
+use Rattle.sq_core.proofs.NewFlow.{new-seats, is-new, none-fed, nothing-fed}
 use Rattle.sq_core.proofs.PlanLemmas.{plans-start}
 use Rattle.sq_core.proofs.PlaceLemmas.{places-of, all-places}
 use Rattle.sq_core.proofs.NewAnswers.{new-answers, rising, few-queued, starts-ready}
@@ -63,7 +63,9 @@ returns-clause-answers c =
     new-answers (record { network = c.args.n.now; sources = map (λ v. v.items) c.args.sources.items; entries = c.args.capacities.now; seed = c.args.seed })
     read c.starts_as_replayed.ensures e.flow (items_in e.flow pages) (λ arc. h.empty pages arc) new
     (subst (λ w. IsShaped w (ops_of c.args.n.now)) (sym h.wires_are) c.in_ok-wires.ensures.shaped) (ap (λ w. w.sheds) h.wires_are ∙ c.in_ok-wires.ensures.sheds)
-    (ap (λ w. w.shown) h.wires_are ∙ c.in_ok-wires.ensures.shown) (ap (λ v. length v.items) h.seats_are ∙ c.in_ok-seats.ensures.count) h.none_taken) c.new.ensures.flow
+    (ap (λ w. w.shown) h.wires_are ∙ c.in_ok-wires.ensures.shown) (ap (λ v. length v.items) h.seats_are ∙ c.in_ok-seats.ensures.count) h.none_taken
+    (nothing-fed c.args.n.now c.requires.sound (places-of c.early_drop_is_sound.ensures.points c.args.n.now c.requires.sound) c.in_ok-wires.wires c.in_ok-wires.ensures.measured
+    c.args.seed c.in_ok-seats.seats.items c.in_ok-seats.ensures.seated c.in_ok-seats.ensures.count e.flow (ap (λ v. v.items) h.seats_are))) c.new.ensures.flow
 
 pub returns-clause-ready : goal.returns-clause-ready
 returns-clause-ready c =

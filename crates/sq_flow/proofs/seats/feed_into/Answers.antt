@@ -46,6 +46,7 @@ returns-in-Ok-clause-fed g c =
           };
       reads = told.same_epoch;
       open_still = c.note.ensures.running;
+      came = c.with-seat.ensures;
     })
 
 pub returns-in-Err-clause-part : goal.returns-in-Err-clause-part

@@ -41,6 +41,7 @@ returns-in-Ok-clause-finished g c =
             taken = omega arith;
           };
       closed = refl;
+      none_came = refl;
     })
 
 pub returns-in-Err-clause-part : goal.returns-in-Err-clause-part

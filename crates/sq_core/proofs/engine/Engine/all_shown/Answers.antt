@@ -10,6 +10,7 @@ returns c =
       fed = c.nothing_left.ensures.fed;
       lost = c.nothing_left.ensures.lost;
       work = c.nothing_left.ensures.work;
+      arcs = c.nothing_left.ensures.arcs;
       plans = nothing-planned c.args.self.now c.requires.sound c.requires.done;
     })
-    c.requires.done
+    c.requires.done (λ r read. c.early_drop_is_sound.ensures.follow r read.sound read.streams read.fit)

@@ -1,5 +1,5 @@
 use Rattle.sq_flow.specs.Flows.{items_in}
-use Rattle.sq_flow.proofs.DoneLemmas.{none-left, all-fed, all-lost, all-decided, all-work}
+use Rattle.sq_flow.proofs.DoneLemmas.{none-left, all-fed, all-lost, all-decided, all-work, all-taken}
 use Rattle.sq_flow.proofs.engine.Engine.nothing_left.Goals as goal
 
 pub returns-clause-lines : goal.returns-clause-lines
@@ -21,3 +21,7 @@ returns-clause-work g c = λ pages table holds.
 pub returns-clause-drops : goal.returns-clause-drops
 returns-clause-drops g c = λ pages table holds actor low.
     all-decided _ c.args.self.now.flow c.requires.engine c.requires.done table (items_in c.args.self.now.flow pages) holds actor low
+
+pub returns-clause-arcs : goal.returns-clause-arcs
+returns-clause-arcs g c = λ pages table holds actor port arc low reads.
+    all-taken _ c.args.self.now.flow c.requires.engine c.requires.done table (items_in c.args.self.now.flow pages) holds actor port arc low reads

@@ -1,0 +1,46 @@
+//! What an operator was fed, which clauses alone read.
+
+ghost use Rattle.std.specs.Prelude.{◌≡◌, ℕ, List, [], ◌∷◌, ◌++◌};
+ghost use Rattle.std.specs.Borrow.{ftrue};
+ghost use Rattle.sq_item.specs.declared.Item.{Item};
+
+use sq_item::Item;
+use std::marker::{Model, PhantomData};
+
+/// The items that an operator was fed, each with its port, in order.
+///
+/// No memory holds the list, and the functions do nothing at run time: what stands in it says nothing by itself. The feed that
+/// puts an item there promises that the operator was fed this one, at this port (`FedSeat`).
+#[derive(Drop)]
+pub struct Intake {
+    marker: PhantomData<u8>,
+    pub ghost items: { List (ℕ × Item) },
+}
+
+impl Model for Intake {
+    ghost also_owns = { λ _. ftrue };
+}
+
+impl Intake {
+    ghost use Rattle.sq_flow.specs.Seats.{unfed};
+
+    /// Nothing was fed yet.
+    #[inline(always)]
+    pub fn new() -> Intake
+        ensures { result ≡ unfed }
+    {
+        Intake {
+            marker: PhantomData,
+        }
+    }
+
+    /// One item more.
+    #[inline(always)]
+    pub(crate) fn with(&self, _port: u32, _item: &Item) -> Intake
+        ensures { result.items ≡ self.now.items ++ (_port, _item.now) ∷ [] }
+    {
+        Intake {
+            marker: PhantomData,
+        }
+    }
+}
