@@ -32,9 +32,9 @@ use Rattle.sq_actor.specs.declared.actor.Actor as operator
 use Rattle.sq_replay.specs.RecordedTuples.{Recorded}
 use Rattle.sq_flow.specs.declared.wires.Wires.{Wires}
 use Rattle.sq_flow.specs.declared.flow.Flow.{Flow}
-use Rattle.sq_flow.specs.declared.intake.Intake.{Intake}
+use Rattle.sq_flow.specs.declared.fed_items.FedItems.{FedItems}
 use Rattle.sq_flow.specs.declared.seats.Seat.{Seat}
-use Rattle.sq_flow.specs.Seats.{rest_at, decides_at, lost_at, taken_at, intake_at, moment_at, done_at, holds_at}
+use Rattle.sq_flow.specs.Seats.{rest_at, decides_at, lost_at, taken_at, fed_items_at, moment_at, done_at, holds_at}
 use Rattle.sq_flow.specs.Starts.{IsNewSeat, IsNewFlow}
 use Rattle.sq_flow.specs.Flows.{tuples_to_come, world_of, fed_on, items_in, taken_in_all}
 use Rattle.sq_flow.specs.Wiring.{net_of, IsOwn}
@@ -121,11 +121,11 @@ module _ (n : Network) (sound : IsSound n) (places : (d : ℕ) (p : DropPoint) �
       sum-none (λ actor. taken_at actors (slice_get flow.seats.items actor)) (length flow.seats.items) (λ actor. ap (λ l. taken_at actors (slice_get l actor)) here ∙ taken-none actor)
 
   pub nothing-fed : (flow : Flow operator.Actor) → flow.seats.items ≡ seats → (actor port : ℕ) → fed_on flow actor port ≡ []
-  nothing-fed flow here actor port = ap (λ l. given port (intake_at (slice_get l actor))) here ∙ by (slice_get seats actor) refl
+  nothing-fed flow here actor port = ap (λ l. given port (fed_items_at (slice_get l actor))) here ∙ by (slice_get seats actor) refl
     where
-      by : (o : Option (Seat operator.Actor)) → slice_get seats actor ≡ o → given port (intake_at o) ≡ []
+      by : (o : Option (Seat operator.Actor)) → slice_get seats actor ≡ o → given port (fed_items_at o) ≡ []
       by None is = refl
-      by (Some seat) is = ap (λ (i : Intake). given port i.items) (seated actor seat is).intake
+      by (Some seat) is = ap (λ (i : FedItems). given port i.items) (seated actor seat is).fed_none
 
   place-start : (actor : ℕ) → moment_at actors (slice_get seats actor) ≡ Start
   place-start actor = by (slice_get seats actor) refl

@@ -22,5 +22,5 @@ all-seated n number actors seats are started actor seat is =
     record {
       started = subst (λ (s : Seat operator.Actor). IsStarted n number (actor_at n actor) s.op) a.2 (started actor a.0 a.1);
       none = ap (λ (s : Seat operator.Actor). s.tally) (sym a.2);
-      intake = ap (λ (s : Seat operator.Actor). s.fed) (sym a.2);
+      fed_none = ap (λ (s : Seat operator.Actor). s.fed) (sym a.2);
     }

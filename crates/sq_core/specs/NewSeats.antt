@@ -17,7 +17,7 @@ none_fed = record { place = Start; taken = 0; running = true }
 pub record IsSeated (n : Network) (number actor : ℕ) (seat : Seat operator.Actor) : Type 0 where
   pub started : IsStarted n number (actor_at n actor) seat.op
   pub none : seat.tally ≡ none_fed
-  pub intake : seat.fed ≡ unfed
+  pub fed_none : seat.fed ≡ unfed
 
 abbrev pub AllSeated : Network → ℕ → List (Seat operator.Actor) → Type 0
 AllSeated n number seats = (actor : ℕ) (seat : Seat operator.Actor) → slice_get seats actor ≡ Some seat → IsSeated n number actor seat

@@ -9,7 +9,7 @@ ghost use Rattle.sq_flow.specs.Seats.{unfed};
 ghost use Rattle.sq_core.specs.NewSeats.{none_fed, AllSeated};
 
 use sq_actor::Actor;
-use sq_flow::{Intake, Seat};
+use sq_flow::{FedItems, Seat};
 use sq_net::Network;
 use sq_oper::Tally;
 use sq_place::DropPoint;
@@ -25,7 +25,7 @@ fn seats_of(alloc: Global, actors: Vec<Actor>) -> Result<Vec<Seat<Actor>>, Alloc
         seats.push(Seat {
             op,
             tally: Tally::new(),
-            fed: Intake::new(),
+            fed: FedItems::new(),
         })?;
     }
     Ok(seats)

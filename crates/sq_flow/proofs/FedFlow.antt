@@ -41,7 +41,7 @@ use Rattle.sq_heads.specs.declared.Next.TheVariants.{Feed}
 use Rattle.sq_flow.specs.Wiring.{net_of, arcs_read, arc_wired, marked_of, fits_on, from_of, to_of, arc_place, pushed_by, AllOutsFine, IsOwn}
 use Rattle.sq_heads.specs.Heads.{NextUpTo}
 use Rattle.sq_flow.specs.Seats as seat
-use Rattle.sq_flow.specs.Seats.{rest_at, decides_at, lost_at, intake_at, moment_at, done_at, holds_at, IsSeat, Owns, FedSeat}
+use Rattle.sq_flow.specs.Seats.{rest_at, decides_at, lost_at, fed_items_at, moment_at, done_at, holds_at, IsSeat, Owns, FedSeat}
 use Rattle.sq_flow.specs.Feeds.{FeedsPart}
 use Rattle.sq_flow.specs.Takes.{takes_of, fits_of, MayBeFed}
 use Rattle.sq_flow.specs.Events.{lines_of, of_drop, drops_of, ShowsIn}
@@ -429,12 +429,12 @@ module _ {O : Type 0} (m : Ghosts O) (e : Flow O) (flow : IsFlow m e) (actor tic
       feeds other =
           at_or_other (λ k. (port arc : ℕ) → slice_get (arcs_read e.wires k) port ≡ Some arc → fed_on e' k port ≡ fed_on e k port ++ taken_at at (spread item) arc) actor
           (λ port arc reads.
-          ap (λ (o : Option (Seat O)). given port (intake_at o)) is_after ∙ ap (given port) fed.came ∙ given-push port p s.fed.items item
-          ∙ ap (λ (o : Option (Seat O)). given port (intake_at o) ++ cond (eqb p port) (spread item) []) (sym is_seat)
+          ap (λ (o : Option (Seat O)). given port (fed_items_at o)) is_after ∙ ap (given port) fed.came ∙ given-push port p s.fed.items item
+          ∙ ap (λ (o : Option (Seat O)). given port (fed_items_at o) ++ cond (eqb p port) (spread item) []) (sym is_seat)
           ∙ ap (λ b. fed_on e actor port ++ cond b (spread item) []) (same-arc port arc reads))
           (λ k ne port arc reads.
           let away : arc ≢ at = λ same. ne (sym (flow.shaped.joined k port arc reads).0 ∙ ap (λ j. to_of (slice_get e.wires.arcs.items j)) same ∙ (flow.shaped.joined actor p at head.1).0) in
-          ap (λ (o : Option (Seat O)). given port (intake_at o)) (apart k ne) ∙ sym (append-nil (fed_on e k port))
+          ap (λ (o : Option (Seat O)). given port (fed_items_at o)) (apart k ne) ∙ sym (append-nil (fed_on e k port))
           ∙ ap (λ b. fed_on e k port ++ cond b (spread item) []) (sym (eqb-not arc at away))) other
 
       pub turns-same : taken' ≡ e.taken + length (spread item)

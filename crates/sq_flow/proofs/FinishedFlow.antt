@@ -28,7 +28,7 @@ use Rattle.sq_flow.specs.Readiness.{TouchesOnly}
 use Rattle.sq_flow.proofs.TouchLemmas.{away-from, stands-pushed, stands-grows}
 use Rattle.sq_oper.specs.Entries.{Entry}
 use Rattle.sq_flow.proofs.WireLemmas.{sent-is}
-use Rattle.sq_flow.specs.declared.intake.Intake.{Intake}
+use Rattle.sq_flow.specs.declared.fed_items.FedItems.{FedItems}
 use Rattle.sq_flow.specs.declared.seats.Seat.{Seat}
 use Rattle.sq_flow.specs.declared.flow.Flow.{Flow}
 use Rattle.sq_heads.specs.declared.Next.TheVariants.{Ended}
@@ -36,7 +36,7 @@ use Rattle.sq_flow.specs.Wiring.{net_of, arcs_read, from_of, pushed_by, AllOutsF
 use Rattle.sq_heads.specs.Heads.{NextUpTo}
 use Rattle.sq_flow.specs.Feeds.{EndsPart}
 use Rattle.sq_flow.specs.Seats as seat
-use Rattle.sq_flow.specs.Seats.{rest_at, decides_at, lost_at, intake_at, moment_at, done_at, holds_at, IsSeat, Owns, FinishedSeat}
+use Rattle.sq_flow.specs.Seats.{rest_at, decides_at, lost_at, fed_items_at, moment_at, done_at, holds_at, IsSeat, Owns, FinishedSeat}
 use Rattle.sq_flow.specs.Events.{lines_of, of_drop, drops_of, ShowsIn}
 use Rattle.sq_flow.specs.Plans.{plans_left, plans_of}
 use Rattle.sq_flow.specs.Flows.{world_of, IsFlow, HoldsItems, Goes, Stepped, ShowsPrefix, fed_on, lines_left, decisions_left, sum_below, taken_in_all, turns_at_last}
@@ -259,8 +259,8 @@ module _ {O : Type 0} (m : Ghosts O) (e : Flow O) (flow : IsFlow m e) (actor : �
       fed-same : (other port : ℕ) → fed_on e' other port ≡ fed_on e other port
       fed-same other port =
           at_or_other (λ k. fed_on e' k port ≡ fed_on e k port) actor
-          (ap (λ (o : Option (Seat O)). given port (intake_at o)) is_after ∙ ap (λ (i : Intake). given port i.items) fin.none_came ∙ ap (λ (o : Option (Seat O)). given port (intake_at o)) (sym is_seat))
-          (λ k ne. ap (λ (o : Option (Seat O)). given port (intake_at o)) (apart k ne)) other
+          (ap (λ (o : Option (Seat O)). given port (fed_items_at o)) is_after ∙ ap (λ (i : FedItems). given port i.items) fin.none_came ∙ ap (λ (o : Option (Seat O)). given port (fed_items_at o)) (sym is_seat))
+          (λ k ne. ap (λ (o : Option (Seat O)). given port (fed_items_at o)) (apart k ne)) other
 
       turns-same : turns_at_last m table items e ≡ e.taken + sum_below (λ other. length (inputs net is e.wires.order.items other)) (length e.seats.items)
       turns-same =

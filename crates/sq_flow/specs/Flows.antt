@@ -26,7 +26,7 @@ use Rattle.sq_flow.specs.declared.flow.Did.TheVariants.{Waits, Fed, Finished}
 use Rattle.sq_flow.specs.Takes.{NotChanged}
 use Rattle.sq_flow.specs.Causes.{IsFeedCause}
 use Rattle.sq_flow.specs.Wiring.{net_of, from_of, arcs_read, IsOwn, IsShaped}
-use Rattle.sq_flow.specs.Seats.{rest_at, decides_at, lost_at, taken_at, intake_at, moment_at, done_at, holds_at, IsSeat, Owns}
+use Rattle.sq_flow.specs.Seats.{rest_at, decides_at, lost_at, taken_at, fed_items_at, moment_at, done_at, holds_at, IsSeat, Owns}
 use Rattle.sq_flow.specs.Events.{lines_of, drops_of, ShowsIn}
 use Rattle.sq_flow.specs.Plans.{IsPlanned, plans_left, plans_of}
 
@@ -103,7 +103,7 @@ left_on m table items flow arc = left (net_of flow.wires) (world_of m table item
 
 -- what an operator was fed at a port
 abbrev pub fed_on : {O : Type 0} → Flow O → ℕ → ℕ → List Thing
-fed_on flow actor port = given port (intake_at (slice_get flow.seats.items actor))
+fed_on flow actor port = given port (fed_items_at (slice_get flow.seats.items actor))
 
 -- how many tuples an operator will have been fed at the end, and how many of them it will have lost
 abbrev pub fed_at_last : {O : Type 0} → Ghosts O → (ℕ → ℕ → ℕ) → (ℕ → List Item) → Flow O → ℕ → ℕ

@@ -12,11 +12,11 @@ use Rattle.sq_item.specs.declared.Item.{Item}
 use Rattle.sq_road.specs.Levels.{LevelTable, AgreesWith}
 use Rattle.sq_oper.specs.Outflow.{given, ItemsSound, ThingsUpTo}
 use Rattle.sq_oper.specs.Order.{IsFuture, after_all}
-use Rattle.sq_flow.specs.declared.intake.Intake.{Intake}
+use Rattle.sq_flow.specs.declared.fed_items.FedItems.{FedItems}
 use Rattle.sq_flow.specs.declared.seats.Seat.{Seat}
 
 -- no item was fed
-abbrev pub unfed : Intake
+abbrev pub unfed : FedItems
 unfed = record { marker = record {}; items = [] }
 
 -- what the operator in a seat says, and a default where there is none
@@ -36,9 +36,9 @@ abbrev pub taken_at : {O : Type 0} → Ghosts O → Option (Seat O) → ℕ
 taken_at m None = 0
 taken_at m (Some seat) = m.taken seat.op
 
-abbrev pub intake_at : {O : Type 0} → Option (Seat O) → List (ℕ × Item)
-intake_at None = []
-intake_at (Some seat) = seat.fed.items
+abbrev pub fed_items_at : {O : Type 0} → Option (Seat O) → List (ℕ × Item)
+fed_items_at None = []
+fed_items_at (Some seat) = seat.fed.items
 
 abbrev pub moment_at : {O : Type 0} → Ghosts O → Option (Seat O) → Moment
 moment_at m None = Start

@@ -14,7 +14,7 @@ ghost use Rattle.sq_flow.specs.Feeds.{FeedsInto, FeedsPart, EndsInto, EndsPart};
 ghost use Rattle.sq_words.specs.Lists.{contains_number};
 
 use crate::errors::RunErr;
-use crate::intake::Intake;
+use crate::fed_items::FedItems;
 use crate::noted::Noted;
 use crate::onward::{Onward, fault_of};
 use crate::wires::Wires;
@@ -30,7 +30,7 @@ use std::sync::ledger::Ledger;
 pub struct Seat<O> {
     pub op: O,
     pub tally: Tally,
-    pub fed: Intake,
+    pub fed: FedItems,
 }
 
 /// Feeds an operator one item. What it gives goes on at once.

@@ -21,17 +21,17 @@ use denote.Triple.Entry.{on_entry}
 use denote.Triple.Spec.{Meets, triple_of}
 use denote.Triple.Table.{entered}
 use denote.Triple.Walked.{says, ends_at, walked, walk_Meets}
-use Rattle.sq_flow.specs.declared.intake.Intake.{Intake}
-use Rattle.sq_flow.specs.contracts.intake.Intake as T
-use Rattle.sq_flow.specs.contracts.intake.Intake.new.Key.{name as #it}
-use Rattle.sq_flow.specs.contracts.intake.Intake.new as it
-use Rattle.sq_flow.proofs.intake.Intake.new.Statement as stated
-use Rattle.sq_flow.proofs.intake.Intake.new.Code as code
+use Rattle.sq_flow.specs.declared.fed_items.FedItems.{FedItems}
+use Rattle.sq_flow.specs.contracts.fed_items.FedItems as T
+use Rattle.sq_flow.specs.contracts.fed_items.FedItems.new.Key.{name as #it}
+use Rattle.sq_flow.specs.contracts.fed_items.FedItems.new as it
+use Rattle.sq_flow.proofs.fed_items.FedItems.new.Statement as stated
+use Rattle.sq_flow.proofs.fed_items.FedItems.new.Code as code
 
 abbrev v : Val
 v = vstruct (vcons (vstruct vnil) vnil)
 
-abbrev r : Intake
+abbrev r : FedItems
 r = record { marker = record {}; items = [] }
 
 meets : {M : Type 1} {𝓤 : Ura M} (𝓛 : Logic 𝓤) → (at_mem : Memory → SProp 𝓤) (run : Routine → Fun 𝓤) (𝓣 : Tables 𝓤 𝓛.H)

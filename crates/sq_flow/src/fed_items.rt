@@ -12,34 +12,34 @@ use std::marker::{Model, PhantomData};
 /// No memory holds the list, and the functions do nothing at run time: what stands in it says nothing by itself. The feed that
 /// puts an item there promises that the operator was fed this one, at this port (`FedSeat`).
 #[derive(Drop)]
-pub struct Intake {
+pub struct FedItems {
     marker: PhantomData<u8>,
     pub ghost items: { List (ℕ × Item) },
 }
 
-impl Model for Intake {
+impl Model for FedItems {
     ghost also_owns = { λ _. ftrue };
 }
 
-impl Intake {
+impl FedItems {
     ghost use Rattle.sq_flow.specs.Seats.{unfed};
 
     /// Nothing was fed yet.
     #[inline(always)]
-    pub fn new() -> Intake
+    pub fn new() -> FedItems
         ensures { result ≡ unfed }
     {
-        Intake {
+        FedItems {
             marker: PhantomData,
         }
     }
 
     /// One item more.
     #[inline(always)]
-    pub(crate) fn with(&self, _port: u32, _item: &Item) -> Intake
+    pub(crate) fn with(&self, _port: u32, _item: &Item) -> FedItems
         ensures { result.items ≡ self.now.items ++ (_port, _item.now) ∷ [] }
     {
-        Intake {
+        FedItems {
             marker: PhantomData,
         }
     }

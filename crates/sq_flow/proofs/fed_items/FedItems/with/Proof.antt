@@ -28,17 +28,17 @@ use denote.Triple.Entry.{on_entry}
 use denote.Triple.Spec.{Meets, triple_of}
 use denote.Triple.Table.{entered}
 use denote.Triple.Walked.{says, Stays, stay_dropped, walk_of, AllGo, Goes-dropped, Walks, ends_at, walked, walk_Meets}
-use Rattle.sq_flow.specs.declared.intake.Intake.{Intake}
+use Rattle.sq_flow.specs.declared.fed_items.FedItems.{FedItems}
 use Rattle.sq_item.specs.declared.Item.{Item}
-use Rattle.sq_flow.specs.contracts.intake.Intake as T
+use Rattle.sq_flow.specs.contracts.fed_items.FedItems as T
 use Rattle.sq_item.specs.contracts.Item as I
-use Rattle.sq_flow.specs.contracts.intake.Intake.with.Key.{name as #it}
-use Rattle.sq_flow.specs.contracts.intake.Intake.with as it
-use Rattle.sq_flow.proofs.intake.Intake.with.Statement as stated
-use Rattle.sq_flow.proofs.intake.Intake.with.Code as code
+use Rattle.sq_flow.specs.contracts.fed_items.FedItems.with.Key.{name as #it}
+use Rattle.sq_flow.specs.contracts.fed_items.FedItems.with as it
+use Rattle.sq_flow.proofs.fed_items.FedItems.with.Statement as stated
+use Rattle.sq_flow.proofs.fed_items.FedItems.with.Code as code
 
 abbrev Arg : Type 0
-Arg = Bor Intake × (ℕ × (Bor Item × Unit {0}))
+Arg = Bor FedItems × (ℕ × (Bor Item × Unit {0}))
 
 abbrev v : Val
 v = vstruct (vcons (vstruct vnil) vnil)
@@ -46,13 +46,13 @@ v = vstruct (vcons (vstruct vnil) vnil)
 abbrev stayed : Stays (it.ended).signature.params (it.ended).kept
 stayed = (stay_dropped _ yes, (stay_dropped _ yes, (stay_dropped _ yes, tt)))
 
-module _ {M : Type 1} {𝓤 : Ura M} (𝓛 : Logic 𝓤) (at_mem : Memory → SProp 𝓤) (run : Routine → Fun 𝓤) (κ κ' : Lft) (q q' : Share) (h : Bor Intake) (n : ℕ) (k : Bor Item) where
+module _ {M : Type 1} {𝓤 : Ura M} (𝓛 : Logic 𝓤) (at_mem : Memory → SProp 𝓤) (run : Routine → Fun 𝓤) (κ κ' : Lft) (q q' : Share) (h : Bor FedItems) (n : ℕ) (k : Bor Item) where
   open 𝓛 use {H}
 
   abbrev x : Arg
   x = (h, (n, (k, tt)))
 
-  abbrev r : Intake
+  abbrev r : FedItems
   r = record { marker = record {}; items = h.now.items ++ (n, k.now) ∷ [] }
 
   abbrev at : List Val × (List Val × (List Val × Unit {0}))
