@@ -33,6 +33,7 @@ module _ (a b : RunState) (counts : Counts) (room : HasCounts a.engine.network c
             ∙ ap (λ many. map (λ w. length (drops_of w out.events)) (numbers_to many)) drops
             ∙ same_numbers (λ w. length (drops_of w out.events)) (λ w. length ((answer_in r).decisions w)) (drops_in r.network)
             (λ w low. ap (λ (xs : List Decision). length xs) (complete.drops w low));
+        took = whole.took;
         fed = whole.fed;
         late = whole.late;
         work = whole.work;

@@ -17,7 +17,7 @@ use Rattle.sq_flow.specs.Events.{IsEventIn, drops_of, lines_of}
 use Rattle.sq_flow.specs.Flows.{HoldsItems, Stepped, decisions_left, items_in, lines_left}
 use Rattle.sq_flow.specs.Plans.{IsPlanned, plans_left, plans_of}
 use Rattle.sq_flow.proofs.EventLemmas.{drops-append, lines-append, plans-append}
-use Rattle.sq_flow.proofs.StepLemmas.{stepped-both}
+use Rattle.sq_flow.proofs.StepLemmas.{stepped-both, stepped-none}
 use Rattle.sq_core.specs.declared.engine.Engine.{Engine}
 use Rattle.sq_core.specs.Meanings.{actors}
 use Rattle.sq_core.specs.Runs.{IsSoundEngine}
@@ -29,21 +29,7 @@ use Rattle.sq_words.proofs.Alls.{all_append}
 -- nothing was done
 pub stepped_none : (pages : Option Pages) (e : Engine) → IsSoundEngine e → Together e.engine.flow.queues pages
     → Stepped actors pages pages e.engine.flow e.engine.flow [] []
-stepped_none pages e sound together = record {
-  flow_after = sound.engine.flow;
-  together = together;
-  tells = λ told. told;
-  wires = refl;
-  framed = refl;
-  seats = refl;
-  closes = λ table h. h;
-  shows = λ h. h;
-  planner = refl;
-  planned = λ all h. h;
-  plans = refl;
-  holds = λ told table agrees h. h;
-  goes = λ told table agrees h. record { lines = λ o low. refl; drops = λ w low. refl; fed = λ actor low. refl; lost = λ actor low. refl; turns = refl; arcs = λ arc low. ([], refl) };
-}
+stepped_none pages e sound together = stepped-none actors pages e.engine.flow [] sound.engine.flow together
 
 -- behind events that were shown
 pub stepped_behind : (was is : Option Pages) (from to : Flow Actor) (es xs : List Event) → Stepped actors was is from to [] xs

@@ -17,8 +17,8 @@ use Rattle.sq_drive.proofs.DrivingLemmas.{completes, sound_run}
 use Rattle.sq_drive.proofs.LeftLemmas.{first_shown}
 use Rattle.sq_drive.proofs.TurnLemmas.{turns_lost, turns_none}
 
-pub ends_so : (Whole : List Event → Type 0) (a b : RunState) → KeepsRun a b → RunsOut Whole a b → HasEnded a.engine b.engine
-ends_so Whole a b keeps out = record { network = keeps.network; sound = out.sound; done = out.done }
+pub ends_so : (Whole : List Event → Type 0) (a b : RunState) → KeepsRun a b → RunsOut Whole a b → HasEnded (known a.log) (known b.log) a.engine b.engine
+ends_so Whole a b keeps out = record { went = record { shown = out.events; stepped = out.left }; network = keeps.network; sound = out.sound; done = out.done }
 
 module _ (a b : RunState) (before now : Option (List ℕ)) (out : RunsOut (λ events. now ≡ appended before (history_text a.engine.network events)) a b) where
   pub drive_ends : (r : Replay) (history : List Event) (begun : ℕ) → Tells (known b.log) → IsRun r (known a.log) a.engine history begun a.steps
@@ -30,6 +30,7 @@ module _ (a b : RunState) (before now : Option (List ℕ)) (out : RunsOut (λ ev
         shown = subst (λ (n : Network). AllByRecursion (IsEventAt n) out.events) run.network out.there;
         all = completes r (sound_run r (known a.log) a.engine history begun a.steps run) b.engine (history ++ out.events) begun b.steps whole;
         written = subst (λ (n : Network). now ≡ appended before (history_text n out.events)) run.network out.shown;
+        took = whole.took;
         fed = whole.fed;
         late = whole.late;
         work = whole.work;

@@ -133,6 +133,7 @@ module _ (First : List Event → Type 0) (a b : RunState) (first : TurnsOn First
     there = first.there;
     shown = whole;
     sound = first.sound;
+    left = first.left;
     done = done;
     rest = rest;
     all = λ told r history begun run. all r (history ++ first.events) begun told (first.goes r history begun run);

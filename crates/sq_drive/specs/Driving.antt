@@ -23,6 +23,7 @@ use Rattle.sq_status.specs.declared.Status.{Status}
 use Rattle.sq_status.specs.declared.Status.TheVariants as status
 use Rattle.sq_points.specs.Points.{drops_in}
 use Rattle.sq_drive.specs.Due.{Answer, answer_in, fed_in, late_counts, turns_in, work_in}
+use Rattle.sq_drive.specs.Failing.{TookNeeded, WentOn}
 use Rattle.sq_status.specs.StatusKinds.{is_refusal, is_changed, is_garbled}
 
 -- a tuple at an output that is there, a decision of a drop that is there, or a plan
@@ -46,12 +47,14 @@ pub record BeginsAnswer (n : Network) (a : Answer) (history : List Event) : Type
   pub plans : IsPrefixOf (plans_of history) a.plans
 
 -- an engine that has shown a history came to its end: what was written is the text of the events that make the history the whole
--- answer, each box was fed what it takes, and the steps are the work, both since nothing was fed
+-- answer, each box was fed what it takes, at each port the tuples that are still needed of the arc there, and the steps are the work, all
+-- since nothing was fed
 pub record IsDriven (r : Replay) (history : List Event) (engine : Engine) (before now : Option (List ℕ)) (begun steps : ℕ) : Type 0 where
   pub events : List Event
   pub shown : AllByRecursion (IsEventAt r.network) events
   pub all : Completes r.network (answer_in r) (history ++ events)
   pub written : now ≡ appended before (history_text r.network events)
+  pub took : TookNeeded r engine
   pub fed : (at : ℕ) → at < length r.network.boxes → fed_at engine at ≡ fed_in r at
   pub late : (at : ℕ) → at < length r.network.boxes → late_at_seat engine at ≡ late_counts r at
   pub work : steps ≡ begun + work_in r
@@ -83,8 +86,9 @@ pub record IsCutShort (faults_before faults_now : ℕ) (result : Status) : Type 
   pub no_end : result ≢ status.Ok
   pub sink : result ≡ status.SinkFault → Rose faults_before faults_now
 
--- an engine came to its end: sound, of the same network, and all its actors are finished
-pub record HasEnded (from to : Engine) : Type 0 where
+-- an engine came to its end by steps that ended well: sound, of the same network, and all its actors are finished
+pub record HasEnded (was is : Option Pages) (from to : Engine) : Type 0 where
+  pub went : WentOn was is from to
   pub network : to.network ≡ from.network
   pub sound : IsSoundEngine to
   pub done : AllDone to.engine.flow

@@ -64,6 +64,7 @@ pub record RunsOut (Whole : List Event → Type 0) (before after : RunState) : T
   pub there : AllByRecursion (IsEventAt before.engine.network) events
   pub shown : Whole events
   pub sound : IsSoundEngine after.engine
+  pub left : Stepped actors (known before.log) (known after.log) before.engine.engine.flow after.engine.engine.flow [] events
   pub done : AllDone after.engine.engine.flow
   pub rest : IsRestOf (known before.log) (known after.log) before.engine after.engine events
   pub all : Tells (known after.log) → (r : Replay) (history : List Event) (begun : ℕ)

@@ -122,7 +122,7 @@ pub fn drive<D: PageDisk, S: Sink, L: Ledger>(
 ) -> Result<Engine, Status>
     requires sound { IsSoundEngine engine }
     requires together { Together engine.engine.flow.queues (known (D.log disk.old)) }
-    ensures ended { IfOk result (HasEnded engine) }
+    ensures ended { IfOk result (HasEnded (known (D.log disk.old)) (known (D.log disk.new)) engine) }
     ensures ok { IfOk result (λ e. (r : Replay) (history : List Event) (begun : ℕ)
         → Tells (known (D.log disk.new)) → IsRun r (known (D.log disk.old)) engine history begun steps.old
         → IsDriven r history e (S.written out.old) (S.written out.new) begun steps.new) }
@@ -162,7 +162,7 @@ pub fn count<D: PageDisk, L: Ledger>(
 ) -> Result<(Engine, Counts), Status>
     requires sound { IsSoundEngine engine }
     requires together { Together engine.engine.flow.queues (known (D.log disk.old)) }
-    ensures ended { IfOk result (λ c. HasEnded engine c.0) }
+    ensures ended { IfOk result (λ c. HasEnded (known (D.log disk.old)) (known (D.log disk.new)) engine c.0) }
     ensures room { IfOk result (λ c. HasCounts (c.0).network c.1) }
     ensures ok { IfOk result (λ c. (r : Replay) (begun : ℕ) → Tells (known (D.log disk.new)) → IsRun r (known (D.log disk.old)) engine [] begun steps.old
         → IsSummed r c.0 c.1 begun steps.new) }
