@@ -8,6 +8,7 @@ use Rattle.std.proofs.lemmas.List.Elements.{filter-append}
 use Rattle.std.proofs.lemmas.List.Folds.{list_all-append}
 use Rattle.sq_words.specs.Lists.{same_bytes, IsPrefixOf}
 use Rattle.sq_lines.specs.Classes.{Class, Shown, Dropped, Planned, Ended, first_field, second_field, is_of_class}
+use Rattle.sq_flow.proofs.ArcLemmas.{front-none}
 use Rattle.sq_drive.specs.Due.{Due}
 use Rattle.sq_drive.specs.Answers.{AreOthersAll, IsClassIn, is_classed, class_lines}
 use Rattle.sq_drive.proofs.ClassLemmas.{Drops, IsLineOf, IsPlainClass, IsPlainName, Outputs, TellsClasses, alike, all_map, classed_dropped, classed_ended, classed_planned, classed_shown, end_field-plain, is_end_field, not_ended, own_names, own_numbers, plain_class, plain_differs, same_bytes-plain}
@@ -75,10 +76,6 @@ class_of d l h =
 pub filter_kept : (p : List ℕ → Bool) (x : List ℕ) (xs : List (List ℕ)) → p x ≡ true → filter p (x ∷ xs) ≡ x ∷ filter p xs
 filter_kept p x xs h = rw h refl
 
-nothing_left : {X : Type 0} (xs ys : List X) → xs ++ ys ≡ [] → xs ≡ []
-nothing_left [] ys h = refl
-nothing_left (x ∷ xs) ys h = cc
-
 first_of : {X : Type 0} (x y : X) (xs ys : List X) → x ∷ xs ≡ y ∷ ys → x ≡ y
 first_of x y xs ys e = cc
 
@@ -109,7 +106,7 @@ module _ (d : Due) (s : TellsClasses d) (ls : List (List ℕ)) (whole : IsWholeL
     others_before : InBack whole.front d.ended before (l ∷ rest) → AreOthersAll d before
     others_before b k here other =
         let p = is_of_class k in
-        let none : filter p b.more ≡ [] = nothing_left (filter p b.more) (filter p (l ∷ rest)) (sym (filter-append p b.more (l ∷ rest)) ∙ sym (ap (filter p) b.back_is) ∙ no_ended k here other) in
+        let none : filter p b.more ≡ [] = front-none (filter p b.more) (filter p (l ∷ rest)) (sym (filter-append p b.more (l ∷ rest)) ∙ sym (ap (filter p) b.back_is) ∙ no_ended k here other) in
         ap (filter p) b.done_is ∙ filter-append p whole.front b.more
         ∙ ap (λ xs. filter p whole.front ++ xs) (none ∙ sym (no_ended k here other))
         ∙ sym (filter-append p whole.front d.ended) ∙ sym (ap (filter p) whole.lines_are) ∙ whole.all k here

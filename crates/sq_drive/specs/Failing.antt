@@ -52,4 +52,4 @@ pub record FedNeeded (was is : DiskLog) (r : AcceptedReplay) : Type 0 where
   pub framed : frames begun.engine.flow.queues ≡ r.frames
   pub engine : Engine
   pub went : WentOn (known was) (known is) begun engine
-  pub took : TookNeeded (replayed r) engine
+  pub needed : TookNeeded (replayed r) engine

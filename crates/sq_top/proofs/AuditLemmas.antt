@@ -53,7 +53,7 @@ module _ (words : List (List ℕ)) (net text : List ℕ) (asked : command_in wor
       (λ told. (
         subst (λ c. AppendsSuch before.output.written after.output.written (IsWholeOf c r)) (sym asked) (appends_all before.output.written after.output.written (verdict_text r) (λ said. said ≡ verdict_text r) written refl),
         omega (arith, still, no_work),
-      ))
+      )) (λ runs. let both : true ≡ false = sym runs ∙ ap runs_engine asked in absurd (cc))
 
   no_fault : (s : Status) → IsLost before.output.faults after.output.faults s → s ≡ status.DiskFault → ⊥
   no_fault s (inl memory) is = let no : status.Memory ≡ status.DiskFault = sym memory ∙ is in cc

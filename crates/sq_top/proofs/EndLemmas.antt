@@ -50,7 +50,7 @@ use Rattle.sq_work.specs.AcceptedViews.{IsPrepared, replay_of}
 use Rattle.sq_top.specs.Running.{EndsEarly}
 use Rattle.sq_work.specs.Reads.{GoesBy, IfAccepted, ScriptLeads, network_read}
 use Rattle.sq_drive.specs.Stopping.{StopHasCause}
-use Rattle.sq_drive.specs.Failing.{IsOfRun}
+use Rattle.sq_drive.specs.Failing.{FedNeeded, IsOfRun}
 use Rattle.sq_top.specs.Ends.{DiskFails, DoesAll, DoesNothing, DoesPart, Ends, IsEngineOf, KnowsDisk, OutputFails}
 use Rattle.sq_top.specs.Outside.{Outside}
 use Rattle.sq_top.specs.Texts.{BeginsText, IsPrefixOfDue, turns_for, verdict_text}
@@ -326,6 +326,7 @@ stopped_ends words before after s source h still = record {
   left = h.left;
   goes = h.goes;
   ok = λ e. absurd (not_ok s h.ends e);
+  fed = λ e engine. absurd (not_ok s h.ends e);
   other = λ e. nothing_written words before after s h.read h.left h.goes still;
   refused_early = λ e. still;
   faulted = λ rose. still;
@@ -347,13 +348,15 @@ module _ (words : List (List ℕ)) (before after : Outside) (r : AcceptedReplay)
   abbrev turns : ℕ
   turns = turns_for (command_in words) r
 
-  pub answered_ok : (KnowsDisk (command_in words) after → DoesAll (command_in words) r before after) → Ends words before after status.Ok source
-  answered_ok whole = record {
+  pub answered_ok : (KnowsDisk (command_in words) after → DoesAll (command_in words) r before after)
+      → (runs_engine (command_in words) ≡ true → Tells (known after.disk.log) → FedNeeded before.disk.log after.disk.log r) → Ends words before after status.Ok source
+  answered_ok whole fed = record {
     read = came.0;
     given = came.2;
     left = Done r;
     goes = came.1;
     ok = λ e. whole;
+    fed = λ e engine. fed engine;
     other = λ e. absurd (e refl);
     refused_early = λ e. absurd (cc);
     faulted = λ rose. absurd (omega (arith, rose, faultless));
@@ -401,6 +404,7 @@ module _ (words : List (List ℕ)) (before after : Outside) (r : AcceptedReplay)
         left = Done r;
         goes = came.1;
         ok = λ e. absurd (cut.no_end e);
+        fed = λ e engine. absurd (cut.no_end e);
         other = λ e. early.part;
         refused_early = λ e. let both : true ≡ false = sym e ∙ cut.begun in absurd (cc);
         faulted = λ rose. absurd (omega (arith, rose, faultless));
@@ -425,6 +429,7 @@ memory_ends words before after s source other differs dry' h = record {
   left = h.left;
   goes = h.goes;
   ok = λ e. absurd (cc);
+  fed = λ e engine. absurd (cc);
   other = λ e. prefix_memory words before after s h.left dry' (h.other differs);
   refused_early = λ e. absurd (cc);
   faulted = h.faulted;

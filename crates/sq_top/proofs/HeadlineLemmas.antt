@@ -9,6 +9,7 @@ use Rattle.std.proofs.lemmas.Option.{slice_get_within}
 use Rattle.sq_value.specs.declared.Tuple.{Tuple}
 use Rattle.sq_words.specs.Lists.{contains_number, numbers_to, same_bytes}
 use Rattle.sq_words.proofs.Lists.{has_item, map_map, same_bytes_itself}
+use Rattle.sq_graph.specs.Wires.{input_arcs_of}
 use Rattle.sq_lines.specs.Classes.{Shown, Dropped, Planned, Ended, of_class}
 use Rattle.sq_lines.specs.LineTexts.{drop_line, output_line}
 use Rattle.sq_place.specs.declared.DropPoint.{DropPoint}
@@ -17,24 +18,28 @@ use Rattle.sq_net.specs.SoundNetworks.{IsSound}
 use Rattle.sq_oper.specs.declared.outs.Decision.{Decision}
 use Rattle.sq_points.specs.Above.{drop_above_output}
 use Rattle.sq_points.specs.Points.{drops_in, points_of}
+use Rattle.sq_model.specs.KeptTuples.{kept_of}
 use Rattle.sq_model.specs.Shedding.{record_of, shown}
 use Rattle.sq_model.specs.Shedding as model
 use Rattle.sq_tap.specs.Parts.{full_output}
 use Rattle.sq_starts.proofs.Starts.{times_start}
 use Rattle.sq_start.specs.Nets.{decision_on, drop_decisions}
 use Rattle.sq_audit.proofs.AuditLemmas.{above_there}
+use Rattle.sq_pool.specs.Trust.{Tells, known}
+use Rattle.sq_core.specs.Runs.{tuples_fed}
 use Rattle.sq_status.specs.declared.Status.{Status}
 use Rattle.sq_status.specs.declared.Status.TheVariants as status
 use Rattle.sq_command.specs.declared.Command.{Command}
 use Rattle.sq_command.specs.declared.Command.TheVariants as command
-use Rattle.sq_command.specs.Commands.{command_in}
+use Rattle.sq_command.specs.Commands.{command_in, runs_engine}
 use Rattle.sq_work.specs.Reads.{GoesBy, IfAccepted}
 use Rattle.sq_work.specs.Scripts.{AcceptedReplay, Done, Script, script_of}
 use Rattle.sq_drive.specs.Due.{Answer, answer_in, due_of, replayed, shown_at_output}
+use Rattle.sq_drive.specs.Failing.{FedNeeded}
 use Rattle.sq_drive.specs.Answers.{IsPrefixText, IsWholeText}
 use Rattle.sq_top.specs.Ends.{DoesAll, DoesNothing, DoesPart, KnowsDisk, Writes}
 use Rattle.sq_top.specs.Headline.{FeedsNeeded, KeepsHeadline, RecordsDropped, ShowsUnrecorded, batch_line, unrecorded}
-use Rattle.sq_top.specs.HeadlineLaw.{RunsKeepTheHeadline, ShowsOutputs}
+use Rattle.sq_top.specs.HeadlineLaw.{RunsKeepTheHeadline, ShowsOutputs, TookIn}
 use Rattle.sq_top.specs.Texts.{IsPrefixOfDue, IsWholeOf}
 use Rattle.sq_top.proofs.EndLemmas.{appends_map, few_drops}
 use Rattle.sq_top.proofs.NamedLemmas.{number_at, one_numbered, picked_at}
@@ -96,20 +101,23 @@ module _ (r : AcceptedReplay) (sound : IsSound r.network) (text : List ℕ) (who
     plans = whole.lines Planned tt;
   }
 
-  feeds : FeedsNeeded r text
-  feeds = record { counted = whole.lines Ended tt }
+  module _ (Took : (ℕ → ℕ → List Tuple) → Type 0) (took : ℕ → ℕ → List Tuple) (of_run : Took took)
+      (needed : (at port arc : ℕ) → at < length r.network.boxes → slice_get (input_arcs_of r.network.wires at) port ≡ Some arc → took at port ≡ kept_of (replayed r) arc) where
+    feeds : FeedsNeeded r text Took
+    feeds = record { took = took; of_run = of_run; needed = needed; counted = whole.lines Ended tt }
 
-  pub whole_keeps : KeepsHeadline r text status.Ok
-  whole_keeps = record {
-    recorded = records_of;
-    shows = λ ok. shows;
-    records = λ ok. records;
-    feeds = λ ok. feeds;
-    begins = λ other. absurd (other refl);
-  }
+    whole_keeps : KeepsHeadline r text status.Ok Took
+    whole_keeps = record {
+      recorded = records_of;
+      shows = λ ok. shows;
+      records = λ ok. records;
+      feeds = λ ok. feeds;
+      begins = λ other. absurd (other refl);
+    }
 
-prefix_keeps : (r : AcceptedReplay) (result : Status) (text : List ℕ) → result ≢ status.Ok → IsPrefixText (due_of r) text → KeepsHeadline r text result
-prefix_keeps r result text other first = record {
+prefix_keeps : (r : AcceptedReplay) (result : Status) (Took : (ℕ → ℕ → List Tuple) → Type 0) (text : List ℕ) → result ≢ status.Ok → IsPrefixText (due_of r) text
+    → KeepsHeadline r text result Took
+prefix_keeps r result Took text other first = record {
   recorded = λ w. [];
   shows = λ ok. absurd (other ok);
   records = λ ok. absurd (other ok);
@@ -133,12 +141,19 @@ is_prefix (Some (command.Gen number rows)) r result text h first = absurd h
 is_prefix (Some (command.Audit net out)) r result text h first = absurd h
 is_prefix (Some (command.Tap net stream tick history query)) r result text h first = first
 
+runs : (c : Option Command) → ShowsOutputs c → runs_engine c ≡ true
+runs None h = absurd h
+runs (Some (command.Run args)) h = refl
+runs (Some (command.Gen number rows)) h = absurd h
+runs (Some (command.Audit net out)) h = absurd h
+runs (Some (command.Tap net stream tick history query)) h = refl
+
 ends_ok : (s : Status) → (s ≡ status.Ok) ⊎ (s ≢ status.Ok)
 ends_ok status.Ok = inl refl
 ends_ok s = inr (λ e. cc)
 
 pub runs_keep : RunsKeepTheHeadline
-runs_keep words before after result r call shows_them left known = by (ends_ok result)
+runs_keep words before after result r call shows_them left known_disk = by (ends_ok result)
   where
     goes : GoesBy before.folder.told (call.ends).read (script_of words) (Done r)
     goes = subst (λ (s : Script). GoesBy before.folder.told (call.ends).read (script_of words) s) left (call.ends).goes
@@ -149,12 +164,14 @@ runs_keep words before after result r call shows_them left known = by (ends_ok r
     of_left : (P : AcceptedReplay → Type 0) (Q : Type 0) → IfAccepted (call.ends).left P Q → P r
     of_left P Q h = subst (λ (s : Script). IfAccepted s P Q) left h
 
-    by : (result ≡ status.Ok) ⊎ (result ≢ status.Ok) → Writes before after (λ text. KeepsHeadline r text result)
+    by : (result ≡ status.Ok) ⊎ (result ≢ status.Ok) → Writes before after (λ text. KeepsHeadline r text result (TookIn before after r))
     by (inl ok) =
-        let all = of_left (λ x. KnowsDisk (command_in words) after → DoesAll (command_in words) x before after) ⊥ ((call.ends).ok ok) (λ engine. known) in
-        appends_map before.output.written after.output.written (IsWholeOf (command_in words) r) (λ text. KeepsHeadline r text result)
-        (λ text whole. subst (KeepsHeadline r text) (sym ok) (whole_keeps r sound text (is_whole (command_in words) r text shows_them whole))) all.0
+        let all = of_left (λ x. KnowsDisk (command_in words) after → DoesAll (command_in words) x before after) ⊥ ((call.ends).ok ok) (λ engine. known_disk) in
+        let fed = of_left (λ x. Tells (known after.disk.log) → FedNeeded before.disk.log after.disk.log x) ⊥ ((call.ends).fed ok (runs (command_in words) shows_them)) known_disk in
+        appends_map before.output.written after.output.written (IsWholeOf (command_in words) r) (λ text. KeepsHeadline r text result (TookIn before after r))
+        (λ text whole. subst (λ s. KeepsHeadline r text s (TookIn before after r)) (sym ok)
+        (whole_keeps r sound text (is_whole (command_in words) r text shows_them whole) (TookIn before after r) (tuples_fed fed.engine) (fed, refl) fed.needed)) all.0
     by (inr other) =
-        let part = of_left (λ x. KnowsDisk (command_in words) after → DoesPart (command_in words) x result before after) (DoesNothing before after) ((call.ends).other other) (λ engine. known) in
-        appends_map before.output.written after.output.written (IsPrefixOfDue (command_in words) r result) (λ text. KeepsHeadline r text result)
-        (λ text first. prefix_keeps r result text other (is_prefix (command_in words) r result text shows_them first)) part.0
+        let part = of_left (λ x. KnowsDisk (command_in words) after → DoesPart (command_in words) x result before after) (DoesNothing before after) ((call.ends).other other) (λ engine. known_disk) in
+        appends_map before.output.written after.output.written (IsPrefixOfDue (command_in words) r result) (λ text. KeepsHeadline r text result (TookIn before after r))
+        (λ text first. prefix_keeps r result (TookIn before after r) text other (is_prefix (command_in words) r result text shows_them first)) part.0

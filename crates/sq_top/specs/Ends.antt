@@ -14,7 +14,7 @@ use Rattle.sq_work.specs.Scripts.{AcceptedReplay, Script, script_of}
 use Rattle.sq_work.specs.Reads.{GoesBy, IfAccepted}
 use Rattle.sq_work.specs.Refusals.{UsageHasCause, NamesSource, IsRefusedAt}
 use Rattle.sq_drive.specs.Stopping.{StopHasCause}
-use Rattle.sq_drive.specs.Failing.{IsOfRun}
+use Rattle.sq_drive.specs.Failing.{FedNeeded, IsOfRun}
 use Rattle.sq_top.specs.Outside.{Outside}
 use Rattle.sq_top.specs.Texts.{IsPrefixOfDue, IsWholeOf, turns_for, work_for}
 
@@ -68,6 +68,9 @@ pub record Ends (words : List (List ℕ)) (before after : Outside) (result : Sta
   pub goes : GoesBy before.folder.told read (script_of words) left
   -- ends Ok: all was accepted, all written and all work done
   pub ok : result ≡ status.Ok → IfAccepted left (λ r. KnowsDisk (command_in words) after → DoesAll (command_in words) r before after) ⊥
+  -- and where an engine ran, it was one of this call, whose boxes took exactly the tuples still needed
+  pub fed : result ≡ status.Ok → runs_engine (command_in words) ≡ true
+      → IfAccepted left (λ r. Tells (known after.disk.log) → FedNeeded before.disk.log after.disk.log r) ⊥
   -- any other end: a prefix of it and no more work; nothing where not all was accepted
   pub other : result ≢ status.Ok
       → IfAccepted left (λ r. KnowsDisk (command_in words) after → DoesPart (command_in words) r result before after) (DoesNothing before after)

@@ -3,8 +3,9 @@
 --     RecordsDropped     exactly the batches that plan and seed drop
 --     FeedsNeeded        each box was fed exactly the tuples still needed
 --     KeepsHeadline      these three where it ends Ok; at any other end a prefix of each
-use Rattle.std.specs.Prelude.{◌≡◌, ◌≢◌, ℕ, ◌*◌, List, map, Option, Some, None, slice_get}
+use Rattle.std.specs.Prelude.{◌≡◌, ◌≢◌, ℕ, ◌*◌, ◌<◌, List, length, map, Option, Some, None, slice_get}
 use Rattle.sq_value.specs.declared.Tuple.{Tuple}
+use Rattle.sq_graph.specs.Wires.{input_arcs_of}
 use Rattle.sq_lines.specs.Classes.{Shown, Dropped, Planned, Ended, of_class}
 use Rattle.sq_lines.specs.LineTexts.{drop_line, output_line}
 use Rattle.sq_place.specs.declared.DropPoint.{DropPoint}
@@ -12,6 +13,7 @@ use Rattle.sq_net.specs.declared.Output.{Output}
 use Rattle.sq_points.specs.Above.{drop_above_output}
 use Rattle.sq_points.specs.Points.{points_of}
 use Rattle.sq_model.specs.GivenLevels.{shown_without}
+use Rattle.sq_model.specs.KeptTuples.{kept_of}
 use Rattle.sq_model.specs.PlanLines.{plans_shown}
 use Rattle.sq_model.specs.Shedding.{batch_level, epoch_of, record_of}
 use Rattle.sq_tap.specs.Parts.{full_output}
@@ -48,15 +50,21 @@ module _ (r : AcceptedReplay) where
       pub dropped : (w : ℕ) (p : DropPoint) → slice_get (points_of r.network) w ≡ Some p → recorded w ≡ record_of (replayed r) w p
       pub plans : of_class Planned text ≡ map plan_text (plans_shown (replayed r))
 
-    -- the end lines tell how many tuples each box was fed: those still needed
-    pub record FeedsNeeded : Type 0 where
+    -- each box took, at each port, exactly the tuples of the arc there that are still needed, where this is what the boxes of the run took;
+    -- and the end lines tell how many tuples those are
+    pub record FeedsNeeded (Took : (ℕ → ℕ → List Tuple) → Type 0) : Type 0 where
+      pub took : ℕ → ℕ → List Tuple
+      pub of_run : Took took
+      pub needed : (at port arc : ℕ) → at < length r.network.boxes → slice_get (input_arcs_of r.network.wires at) port ≡ Some arc
+          → took at port ≡ kept_of (replayed r) arc
       pub counted : of_class Ended text ≡ ended_in (replayed r) r.first
 
-    pub record KeepsHeadline (result : Status) : Type 0 where
+    -- Took says of tuples, by box and port, that they are what the boxes of the run took
+    pub record KeepsHeadline (result : Status) (Took : (ℕ → ℕ → List Tuple) → Type 0) : Type 0 where
       -- ends Ok
       pub recorded : ℕ → List ℕ
       pub shows : result ≡ status.Ok → ShowsUnrecorded recorded
       pub records : result ≡ status.Ok → RecordsDropped recorded
-      pub feeds : result ≡ status.Ok → FeedsNeeded
+      pub feeds : result ≡ status.Ok → FeedsNeeded Took
       -- any other end
       pub begins : result ≢ status.Ok → IsPrefixText (due_of r) text

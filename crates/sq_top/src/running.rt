@@ -4,7 +4,7 @@ ghost use Rattle.std.specs.String.{string_bytes};
 ghost use Rattle.sq_outside.specs.Faults.{Rose};
 ghost use Rattle.sq_words.specs.Lists.{IsPrefixOf};
 ghost use Rattle.sq_outside.specs.Disks.{Pages};
-ghost use Rattle.sq_pool.specs.Trust.{IsLater};
+ghost use Rattle.sq_pool.specs.Trust.{IsLater, Tells, known};
 ghost use Rattle.sq_core.specs.Runs.{IsRun, IsSoundEngine};
 ghost use Rattle.sq_command.specs.Commands.{command_in, reads_folder, runs_engine};
 ghost use Rattle.sq_top.specs.Ends.{DoesAll, Ends, KnowsDisk};
@@ -13,6 +13,7 @@ ghost use Rattle.sq_top.specs.Outside.{SinkState, disk_state, outside, sink_stat
 ghost use Rattle.sq_top.specs.Running.{EndsEarly, IsReportedBy, WhoeverAsks};
 ghost use Rattle.sq_queue.specs.Faces as faces;
 ghost use Rattle.sq_sched.specs.Policies.{seed_words};
+ghost use Rattle.sq_drive.specs.Failing.{FedNeeded};
 ghost use Rattle.sq_drive.specs.Due.{replayed};
 ghost use Rattle.sq_work.specs.AcceptedViews.{CanRun, IsPrepared, replay_of};
 ghost use Rattle.sq_outside.specs.Sinks.{AppendsSuch};
@@ -78,6 +79,7 @@ fn run_accepted<D: PageDisk, S: Sink, L: Ledger>(
     requires { CanRun accepted }
     ensures ok { OnOk result (WhoeverAsks report (disk_state D.PageDisk disk.old) (disk_state D.PageDisk disk.new)
         (sink_state S.Sink out.old) (sink_state S.Sink out.new) steps.old steps.new (λ c before after. KnowsDisk c after → DoesAll c (replay_of accepted) before after)) }
+    ensures fed { OnOk result (Tells (known (D.log disk.new)) → FedNeeded (D.log disk.old) (D.log disk.new) (replay_of accepted)) }
     ensures cut { IfErr result (λ s. WhoeverAsks report (disk_state D.PageDisk disk.old) (disk_state D.PageDisk disk.new)
         (sink_state S.Sink out.old) (sink_state S.Sink out.new) steps.old steps.new (λ c before after. EndsEarly c (replay_of accepted) before after s)) }
     ensures later { IsLater (D.log disk.old) (D.log disk.new) }

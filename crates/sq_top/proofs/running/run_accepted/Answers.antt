@@ -43,6 +43,18 @@ returns-in-Ok-drive-clause-ok g c =
     (c.in-Ok-drive.ensures.ok (replayed r) [] c.args.steps.now told run) _ written)
     (λ told. (c.in-Ok-drive.ensures.ok (replayed r) [] c.args.steps.now told run).work))
 
+pub returns-in-Ok-drive-clause-fed : goal.returns-in-Ok-drive-clause-fed
+returns-in-Ok-drive-clause-fed g c =
+    on_ok c.write_ends.result c.write_ends.ensures.ok
+    (λ written told. record {
+      begun = c.in-Ok.started.0;
+      new = c.in-Ok.ensures.run;
+      framed = c.in-Ok.ensures.frames;
+      engine = c.in-Ok-drive.engine;
+      went = c.in-Ok-drive.ensures.ended.went;
+      needed = (c.in-Ok-drive.ensures.ok (replayed (replay_of c.args.accepted)) [] c.args.steps.now told (c.in-Ok.ensures.run _ c.args.steps.now)).took;
+    })
+
 pub returns-in-Ok-drive-clause-cut : goal.returns-in-Ok-drive-clause-cut
 returns-in-Ok-drive-clause-cut g c =
     let r = replay_of c.args.accepted in
@@ -78,6 +90,18 @@ returns-in-Ok-count-clause-ok g c =
     (λ told. summary_ends c.in-Summary.number c.in-Summary.rows (replayed r) c.in-Ok-count.engine (c.in-Ok-count.ensures.ended.network ∙ run.network) c.in-Ok-count.counts _ _
     (c.in-Ok-count.ensures.ok (replayed r) c.args.steps.now told run) _ _ written)
     (λ told. (c.in-Ok-count.ensures.ok (replayed r) c.args.steps.now told run).work))
+
+pub returns-in-Ok-count-clause-fed : goal.returns-in-Ok-count-clause-fed
+returns-in-Ok-count-clause-fed g c =
+    on_ok c.write_summary.result c.write_summary.ensures.ok
+    (λ written told. record {
+      begun = c.in-Ok.started.0;
+      new = c.in-Ok.ensures.run;
+      framed = c.in-Ok.ensures.frames;
+      engine = c.in-Ok-count.engine;
+      went = c.in-Ok-count.ensures.ended.went;
+      needed = (c.in-Ok-count.ensures.ok (replayed (replay_of c.args.accepted)) c.args.steps.now told (c.in-Ok.ensures.run _ c.args.steps.now)).took;
+    })
 
 pub returns-in-Ok-count-clause-cut : goal.returns-in-Ok-count-clause-cut
 returns-in-Ok-count-clause-cut g c =

@@ -18,7 +18,7 @@ pub returns-in-Ok-run_accepted-clause-ends : goal.returns-in-Ok-run_accepted-cla
 returns-in-Ok-run_accepted-clause-ends g c words folder folder' messages messages' asked prepared faultless =
     rw (c.stopped_by.ensures.0, c.stopped_by.ensures.1)
     (answered_ok words _ _ (replay_of c.in-Ok.accepted) _ (reported_some c.args.report (command_in words) asked) (rw c.in-Ok.is at prepared) (rw c.in-Ok.is at faultless)
-    (c.in-Ok-run_accepted.ensures.ok (command_in words) folder folder' messages messages' asked))
+    (c.in-Ok-run_accepted.ensures.ok (command_in words) folder folder' messages messages' asked) (λ runs. c.in-Ok-run_accepted.ensures.fed))
 
 pub returns-in-Err-run_accepted-clause-ends : goal.returns-in-Err-run_accepted-clause-ends
 returns-in-Err-run_accepted-clause-ends g c words folder folder' messages messages' asked prepared faultless =
