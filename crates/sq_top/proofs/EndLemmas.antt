@@ -49,6 +49,7 @@ use Rattle.sq_work.specs.declared.reading.Stopped.{Stopped}
 use Rattle.sq_work.specs.AcceptedViews.{IsPrepared, replay_of}
 use Rattle.sq_top.specs.Running.{EndsEarly}
 use Rattle.sq_work.specs.Reads.{GoesBy, IfAccepted, ScriptLeads, network_read}
+use Rattle.sq_pool.specs.Trust.{Tells, known}
 use Rattle.sq_drive.specs.Stopping.{StopHasCause}
 use Rattle.sq_drive.specs.Failing.{FedNeeded, IsOfRun}
 use Rattle.sq_top.specs.Ends.{DiskFails, DoesAll, DoesNothing, DoesPart, Ends, IsEngineOf, KnowsDisk, OutputFails}
