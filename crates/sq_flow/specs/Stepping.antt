@@ -11,6 +11,7 @@ use Rattle.sq_road.specs.Levels.{AgreesWith}
 use Rattle.sq_oper.specs.declared.operator.Operator.{Ghosts}
 use Rattle.sq_oper.specs.declared.outs.Event.{Event}
 use Rattle.sq_pool.specs.Trust.{IsLater, known}
+use Rattle.sq_queue.specs.Faces.{Together}
 use Rattle.sq_flow.specs.declared.flow.Flow.{Flow}
 use Rattle.sq_flow.specs.declared.flow.Did.{Did}
 use Rattle.sq_flow.specs.declared.steps.Progress.{Progress}
@@ -51,6 +52,12 @@ pub record StepOk {O : Type 0} (m : Ghosts O) (actor : ℕ) (did : Did) (before 
   pub lowers : Lowers did (measure_of before.flow) (measure_of after.flow)
   pub took : TookBy actor did before.flow after.flow
   pub waits : WaitsOnly did ((IsReady before.flow actor → ⊥) × (after.flow ≡ before.flow))
+
+-- a step that ended Ok and touched nothing outside, whatever stands there
+abbrev pub StepsAlone : {O : Type 0} → Ghosts O → ℕ → Did → Flow O → Flow O → Type 0
+StepsAlone m actor did flow flow' = (log : DiskLog) (faults : ℕ) (events : List Event) (steps : ℕ) → Together flow.queues (known log)
+    → StepOk m actor did (record { flow = flow; log = log; faults = faults; events = events; steps = steps })
+    (record { flow = flow'; log = log; faults = faults; events = events; steps = steps })
 
 -- a train of up to so many steps that ended Ok. It ends before only where the actor is finished or isn't ready
 pub record TrainOk {O : Type 0} (m : Ghosts O) (actor train : ℕ) (before after : Stage O) (p : Progress) : Type 0 where

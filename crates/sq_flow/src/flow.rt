@@ -140,12 +140,11 @@ fn end_arcs(wires: &Wires, queues: &mut Queues, actor: u32)
 }
 
 impl<O: Operator + Drop> Flow<O> {
-    ghost use Rattle.sq_flow.specs.Flows.{IsFlow, Stepped, taken_in_all, to_release, measure_of};
-    ghost use Rattle.sq_flow.specs.Readiness.{TouchesOnly, Took};
+    ghost use Rattle.sq_flow.specs.Flows.{IsFlow, to_release};
     ghost use Rattle.sq_flow.specs.Wiring.{arcs_read};
     ghost use Rattle.sq_heads.specs.Heads.{NextUpTo};
     ghost use Rattle.sq_flow.specs.Seats.{done_at};
-    ghost use Rattle.sq_flow.specs.Stepping.{stage, StepOk, StepErr};
+    ghost use Rattle.sq_flow.specs.Stepping.{stage, StepOk, StepErr, StepsAlone};
 
     /// Feeds an operator the first item of an arc.
     #[inline(always)]
@@ -287,13 +286,7 @@ impl<O: Operator + Drop> Flow<O> {
         requires flow { IsFlow O.Operator self.old }
         requires none { (source : ℕ) → to_release self.old source ≡ [] }
         requires running { self.old.over ≡ false }
-        ensures ok { (pages : Option Pages) (events : List Event) → Together self.old.queues pages
-            → Stepped O.Operator pages pages self.old self.new events events }
-        ensures touches { TouchesOnly (length self.old.seats.items) self.old self.new }
-        ensures taken { taken_in_all O.Operator self.new ≡ taken_in_all O.Operator self.old }
-        ensures closes { (table : ℕ → ℕ → ℕ) → AgreesWith self.new.levels table → AgreesWith self.old.levels table }
-        ensures measure { measure_of self.new + 1 ≤ measure_of self.old }
-        ensures took { Took (length self.old.seats.items) 0 true self.old self.new }
+        ensures { StepsAlone O.Operator (length self.old.seats.items) Did.Finished self.old self.new }
     {
         let replay = self.wires.replay;
         self.over = true;

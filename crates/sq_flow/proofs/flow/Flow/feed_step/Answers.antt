@@ -27,9 +27,9 @@ returns-clause-ok g c =
     let was = slice_get_read c.args.self.now.seats.items _ c.args.actor c.index.result.now refl c.requires.actor_in c.index.ensures in
     let is = slice_get_read c.args.self.now.seats.items _ c.args.actor c.index_mut.result.now refl c.requires.actor_in c.index_mut.ensures.value in
     let same = same_Some c.index.result.now c.index_mut.result.now (sym was ∙ is) in
-    let may = subst (λ z. MayBeFed c.arc-at.result.now c.args.port z.tally.place c.args.self.now.clock c.in-Ok.item) same c.in-Ok.ensures.may_be_fed in
+    let may = subst (λ z. MayBeFed c.arc-at.result.now c.args.port z.tally.place c.args.self.now.clock c.in-Ok.item) same c.in-Ok.ensures.ok.may_be_fed in
     let still = open-same c.args.self.now.seats.items c.args.actor c.index_mut.result.now c.feed_into.new.seat is c.in_ok-feed_into.ensures.fed.fed.open_still in
-    let weight = weighs c.in-Ok.item c.in-Ok.ensures.sound in
+    let weight = weighs c.in-Ok.item c.in-Ok.ensures.ok.sound in
     let more = c.in-Ok-count_item.ensures.ok.0 in
     let low = c.in-Ok-count_item.ensures.ok.1 in
     let after = get_set_same c.args.self.now.seats.items c.args.actor c.feed_into.new.seat c.requires.actor_in in
@@ -41,7 +41,7 @@ returns-clause-ok g c =
             c.feed_into.new.seat c.in_ok-feed_into.ensures.fed.items c.in_ok-feed_into.ensures.fed.drops c.args.events.now.items c.feed_into.new.events.items
             c.requires.together
             may
-            c.in-Ok.ensures.ended c.in-Ok.ensures.size c.in-Ok.ensures.frames c.in-Ok.ensures.items c.in-Ok.ensures.others c.in-Ok.ensures.later.known c.in-Ok-count_item.ensures.ok.0 c.in-Ok-count_item.ensures.ok.1
+            c.in-Ok.ensures.ok.ended c.in-Ok.ensures.size c.in-Ok.ensures.ok.framed c.in-Ok.ensures.ok.taken.items c.in-Ok.ensures.ok.others c.in-Ok.ensures.later.known c.in-Ok-count_item.ensures.ok.0 c.in-Ok-count_item.ensures.ok.1
             c.in_ok-feed_into.ensures.fed.fed
             (get_set_same c.args.self.now.seats.items c.args.actor c.feed_into.new.seat c.requires.actor_in)
             (λ other ne. get_set_other c.args.self.now.seats.items c.args.actor other c.feed_into.new.seat ne)
@@ -69,7 +69,7 @@ returns-clause-ok g c =
       took =
           operator-took c.args.self.now _ c.args.actor 1 false c.requires.actor_in (length-set c.args.self.now.seats.items c.args.actor c.feed_into.new.seat)
           (fed-sum c.args.self.now.wires (length c.args.self.now.seats.items) c.requires.flow.shaped c.args.actor c.requires.actor_in c.args.self.now.queues c.take_item.new.queues c.feed_into.new.queues c.args.port c.args.arc
-          c.requires.head.1.1 c.in-Ok.ensures.popped c.in-Ok.ensures.faces c.in_ok-feed_into.ensures.fed.onward.sent.apart)
+          c.requires.head.1.1 c.in-Ok.ensures.ok.taken.popped c.in-Ok.ensures.faces c.in_ok-feed_into.ensures.fed.onward.sent.apart)
           (goes-on c.args.self.now.over _ _ c.index_mut.result.now c.feed_into.new.seat is after c.in_ok-feed_into.ensures.fed.fed.open_still c.requires.running);
       waits = tt;
     }
@@ -84,16 +84,16 @@ returns-in-Err-clause-err g c =
       plans = plans-stay c.args.self.now c.args.events.now.items c.args.events.now.items refl;
       strange =
           λ told table agrees holds.
-          c.in-Err.ensures.strange told
+          c.in-Err.ensures.err.honest told
           (λ item more front.
           passes-front _ c.args.self.now c.requires.flow c.args.actor c.requires.head.0 c.args.port c.args.arc c.arc-at.result.now item c.requires.actor_in c.requires.head.1
           c.index.result.now is c.arc-at.ensures table agrees (items_on c.args.self.now.queues (known (g.D.PageDisk.log c.args.disk.now))) holds (c.requires.together.faces (c.in-Err.ensures.later.known told)) more front);
-      cause = refused-in _ c.args.actor c.args.port c.args.arc c.index.result.now c.arc-at.result.now _ _ _ _ _ _ c.requires.head.1.1 is c.arc-at.ensures c.in-Err.ensures.cause;
+      cause = refused-in _ c.args.actor c.args.port c.args.arc c.index.result.now c.arc-at.result.now _ _ _ _ _ _ c.requires.head.1.1 is c.arc-at.ensures c.in-Err.ensures.err.cause;
       feed =
           fails-here _ _ _ _ _ _ _ c.requires.flow c.requires.together c.in-Err.ensures.later
-          (refused-feed c.args.self.now (record c.args.self.now { queues = c.take_item.new.queues }) c.args.actor c.args.port c.args.arc _ _ _ _ _ _ _ _ c.requires.head.1.1 refl c.in-Err.ensures.cause);
+          (refused-feed c.args.self.now (record c.args.self.now { queues = c.take_item.new.queues }) c.args.actor c.args.port c.args.arc _ _ _ _ _ _ _ _ c.requires.head.1.1 refl c.in-Err.ensures.err.cause);
       cost = costs-none _ c.args.self.now c.requires.flow (known (g.D.PageDisk.log c.args.disk.now)) (known (g.D.PageDisk.log c.take_item.new.disk)) c.args.self.now.levels c.args.steps.now c.args.steps.now refl;
-      too_much = none-too-much _ _ _ _ _ _ c.in-Err.ensures.memory;
+      too_much = none-too-much _ _ _ _ _ _ c.in-Err.ensures.err.counts;
     }
 
 pub returns-in-Err-count_item-clause-err : goal.returns-in-Err-count_item-clause-err
@@ -109,11 +109,11 @@ returns-in-Err-count_item-clause-err g c =
       feed =
           fails-here _ _ _ _ _ _ _ c.requires.flow c.requires.together c.in-Ok.ensures.later
           (full-feed c.args.self.now (record c.args.self.now { queues = c.take_item.new.queues }) c.args.actor c.args.port c.args.arc c.in-Ok.item _ _ _ c.requires.head.1.1 refl
-          (record { popped = c.in-Ok.ensures.popped; others = c.in-Ok.ensures.faces; first = c.in-Ok.ensures.first; items = c.in-Ok.ensures.items }) c.in-Err-count_item.ensures.err c.in-Err-count_item.ensures.too_much);
+          c.in-Ok.ensures.ok.taken c.in-Err-count_item.ensures.err c.in-Err-count_item.ensures.too_much);
       cost = costs-none _ c.args.self.now c.requires.flow (known (g.D.PageDisk.log c.args.disk.now)) (known (g.D.PageDisk.log c.take_item.new.disk)) c.args.self.now.levels c.args.steps.now c.args.steps.now refl;
       too_much =
           too-much-front _ c.args.self.now c.requires.flow c.args.actor c.requires.head.0 c.args.port c.args.arc c.arc-at.result.now c.in-Ok.item c.requires.actor_in c.requires.head.1 c.index.result.now is c.arc-at.ensures
-          (known (g.D.PageDisk.log c.args.disk.now)) (known (g.D.PageDisk.log c.take_item.new.disk)) c.take_item.new.queues _ c.in-Err-count_item.e c.requires.together c.in-Ok.ensures.later.known c.in-Ok.ensures.items c.in-Ok.ensures.others
+          (known (g.D.PageDisk.log c.args.disk.now)) (known (g.D.PageDisk.log c.take_item.new.disk)) c.take_item.new.queues _ c.in-Err-count_item.e c.requires.together c.in-Ok.ensures.later.known c.in-Ok.ensures.ok.taken.items c.in-Ok.ensures.ok.others
           c.in-Err-count_item.ensures.too_much c.in-Err-count_item.ensures.few refl refl;
     }
 
@@ -130,75 +130,60 @@ returns-in_err-feed_into-clause-err g c =
       prefix =
           fed-part _ c.args.self.now c.requires.flow c.args.actor c.requires.head.0 c.args.port c.args.arc c.arc-at.result.now c.in-Ok.item c.requires.actor_in c.requires.head.1 c.index_mut.result.now is c.arc-at.ensures
           (known (g.D.PageDisk.log c.args.disk.now)) (known (g.D.PageDisk.log c.take_item.new.disk)) (known (g.D.PageDisk.log c.feed_into.new.disk)) c.take_item.new.queues c.args.events.now.items c.feed_into.new.events.items
-          c.requires.together c.in-Ok.ensures.later.known c.in_err-feed_into.ensures.later.known c.in-Ok.ensures.items c.in-Ok.ensures.others c.in_err-feed_into.ensures.part
-          (subst (λ z. MayBeFed c.arc-at.result.now c.args.port z.tally.place c.args.self.now.clock c.in-Ok.item) same c.in-Ok.ensures.may_be_fed) c.requires.running;
+          c.requires.together c.in-Ok.ensures.later.known c.in_err-feed_into.ensures.later.known c.in-Ok.ensures.ok.taken.items c.in-Ok.ensures.ok.others c.in_err-feed_into.ensures.part
+          (subst (λ z. MayBeFed c.arc-at.result.now c.args.port z.tally.place c.args.self.now.clock c.in-Ok.item) same c.in-Ok.ensures.ok.may_be_fed) c.requires.running;
       plans = plans-stay c.args.self.now c.args.events.now.items c.feed_into.new.events.items c.in_err-feed_into.ensures.part.shown.plans;
-      strange = λ told table agrees holds. changed-since _ _ _ c.in-Ok.ensures.later.honest (c.in_err-feed_into.ensures.honest told);
-      cause = cause-in _ _ _ _ _ _ (queue-cause-since _ _ _ _ _ _ _ _ c.in-Ok.ensures.later c.in-Ok.ensures.faults c.in_err-feed_into.ensures.cause);
+      strange = λ told table agrees holds. changed-since _ _ _ c.in-Ok.ensures.later.honest (c.in_err-feed_into.ensures.fails.honest told);
+      cause = cause-in _ _ _ _ _ _ (queue-cause-since _ _ _ _ _ _ _ _ c.in-Ok.ensures.later c.in-Ok.ensures.faults c.in_err-feed_into.ensures.fails.cause);
       feed =
           fails-here _ _ _ _ _ _ _ c.requires.flow c.requires.together (IsLater-trans _ _ _ c.in-Ok.ensures.later c.in_err-feed_into.ensures.later)
-          (feeds-none _ _ _ _ _ _ _ _ _ _ c.in_err-feed_into.ensures.cause);
+          (feeds-none _ _ _ _ _ _ _ _ _ _ c.in_err-feed_into.ensures.fails.cause);
       cost = costs-none _ c.args.self.now c.requires.flow (known (g.D.PageDisk.log c.args.disk.now)) (known (g.D.PageDisk.log c.feed_into.new.disk)) c.args.self.now.levels c.args.steps.now c.feed_into.new.steps c.in_err-feed_into.ensures.no_cost;
-      too_much = none-too-much _ _ _ _ _ _ (counts-none _ _ _ _ _ _ c.in_err-feed_into.ensures.cause);
+      too_much = none-too-much _ _ _ _ _ _ (counts-none _ _ _ _ _ _ c.in_err-feed_into.ensures.fails.cause);
     })
-
-pub feed_into-requires-clause-is_valid : goal.feed_into-requires-clause-is_valid
-feed_into-requires-clause-is_valid g c =
-    let is = slice_get_read c.args.self.now.seats.items _ c.args.actor c.index_mut.result.now refl c.requires.actor_in c.index_mut.ensures.value in
-    let fine = seat-fine _ c.args.self.now c.requires.flow c.args.actor c.requires.head.0 c.args.port c.args.arc c.arc-at.result.now c.in-Ok.item c.requires.actor_in c.requires.head.1 c.index_mut.result.now is c.arc-at.ensures in (
-      fine.arcs.is_valid,
-      runs _ c.args.self.now c.requires.flow c.args.actor c.requires.head.0 c.args.port c.args.arc c.arc-at.result.now c.in-Ok.item c.requires.actor_in c.requires.head.1 c.index_mut.result.now is c.arc-at.ensures c.requires.running,
-    )
-
-pub feed_into-requires-clause-may_come : goal.feed_into-requires-clause-may_come
-feed_into-requires-clause-may_come g c =
-    let was = slice_get_read c.args.self.now.seats.items _ c.args.actor c.index.result.now refl c.requires.actor_in c.index.ensures in
-    let is = slice_get_read c.args.self.now.seats.items _ c.args.actor c.index_mut.result.now refl c.requires.actor_in c.index_mut.ensures.value in
-    let same = same_Some c.index.result.now c.index_mut.result.now (sym was ∙ is) in
-    may-come _ c.args.self.now c.requires.flow c.args.actor c.requires.head.0 c.args.port c.args.arc c.arc-at.result.now c.in-Ok.item c.requires.actor_in c.requires.head.1 c.index_mut.result.now is c.arc-at.ensures
-    (subst (λ z. MayBeFed c.arc-at.result.now c.args.port z.tally.place c.args.self.now.clock c.in-Ok.item) same c.in-Ok.ensures.may_be_fed)
-
-pub feed_into-requires-clause-has_room : goal.feed_into-requires-clause-has_room
-feed_into-requires-clause-has_room g c =
-    let is = slice_get_read c.args.self.now.seats.items _ c.args.actor c.index_mut.result.now refl c.requires.actor_in c.index_mut.ensures.value in
-    let fine = seat-fine _ c.args.self.now c.requires.flow c.args.actor c.requires.head.0 c.args.port c.args.arc c.arc-at.result.now c.in-Ok.item c.requires.actor_in c.requires.head.1 c.index_mut.result.now is c.arc-at.ensures in
-    let counted = fine.counted in
-    let few = fine.few in
-    let weight = weighs c.in-Ok.item c.in-Ok.ensures.sound in
-    let more = c.in-Ok-count_item.ensures.ok.0 in
-    let low = c.in-Ok-count_item.ensures.ok.1 in
-    (omega (arith, counted, few, weight, more, low), omega (arith, few, weight, more, low))
-
-pub feed_into-requires-clause-there : goal.feed_into-requires-clause-there
-feed_into-requires-clause-there g c = λ port place arc is.
-    let r = arcs-open _ c.args.self.now c.requires.flow c.args.actor c.requires.running port place arc is in
-    (rw c.in-Ok.ensures.size r.0, c.in-Ok.ensures.ended arc ∙ r.1)
-
-pub feed_into-requires-clause-has_epoch : goal.feed_into-requires-clause-has_epoch
-feed_into-requires-clause-has_epoch g c =
-    let is = slice_get_read c.args.self.now.seats.items _ c.args.actor c.index_mut.result.now refl c.requires.actor_in c.index_mut.ensures.value in
-    let fine = seat-fine _ c.args.self.now c.requires.flow c.args.actor c.requires.head.0 c.args.port c.args.arc c.arc-at.result.now c.in-Ok.item c.requires.actor_in c.requires.head.1 c.index_mut.result.now is c.arc-at.ensures in
-    fine.reads (sym fine.running ∙ runs _ c.args.self.now c.requires.flow c.args.actor c.requires.head.0 c.args.port c.args.arc c.arc-at.result.now c.in-Ok.item c.requires.actor_in c.requires.head.1 c.index_mut.result.now is c.arc-at.ensures c.requires.running)
-
-pub feed_into-requires-clause-joined : goal.feed_into-requires-clause-joined
-feed_into-requires-clause-joined g c = comes-from c.args.self.now.wires (length c.args.self.now.seats.items) c.requires.flow.shaped c.args.actor
 
 -- an earlier time is of no later epoch
 epochs-climb : (time clock epoch : ℕ) → time ≤ clock → time / epoch ≤ clock / epoch
 epochs-climb time clock zero le = rw (div-zero time, div-zero clock) (omega arith)
 epochs-climb time clock (suc k) le = div-low time clock (suc k) (omega arith) le
 
-pub feed_into-requires-clause-has_level : goal.feed_into-requires-clause-has_level
-feed_into-requires-clause-has_level g c =
-    let low = epochs-climb c.in-Ok.item.time c.args.self.now.clock c.args.self.now.levels.epoch c.in-Ok.ensures.may_be_fed.in_time in
+pub feed_into-requires-clause-fits : goal.feed_into-requires-clause-fits
+feed_into-requires-clause-fits g c =
+    let was = slice_get_read c.args.self.now.seats.items _ c.args.actor c.index.result.now refl c.requires.actor_in c.index.ensures in
+    let is = slice_get_read c.args.self.now.seats.items _ c.args.actor c.index_mut.result.now refl c.requires.actor_in c.index_mut.ensures.value in
+    let same = same_Some c.index.result.now c.index_mut.result.now (sym was ∙ is) in
+    let fine = seat-fine _ c.args.self.now c.requires.flow c.args.actor c.requires.head.0 c.args.port c.args.arc c.arc-at.result.now c.in-Ok.item c.requires.actor_in c.requires.head.1 c.index_mut.result.now is c.arc-at.ensures in
+    let ran = runs _ c.args.self.now c.requires.flow c.args.actor c.requires.head.0 c.args.port c.args.arc c.arc-at.result.now c.in-Ok.item c.requires.actor_in c.requires.head.1 c.index_mut.result.now is c.arc-at.ensures c.requires.running in
+    let counted = fine.counted in
+    let few = fine.few in
+    let weight = weighs c.in-Ok.item c.in-Ok.ensures.ok.sound in
+    let more = c.in-Ok-count_item.ensures.ok.0 in
+    let low = c.in-Ok-count_item.ensures.ok.1 in
+    let sooner = epochs-climb c.in-Ok.item.time c.args.self.now.clock c.args.self.now.levels.epoch c.in-Ok.ensures.ok.may_be_fed.in_time in
     let closed = c.requires.flow.levels.0 in
-    omega (arith, low, closed)
+    record {
+      is_valid = (fine.arcs.is_valid, ran);
+      may_come =
+          may-come _ c.args.self.now c.requires.flow c.args.actor c.requires.head.0 c.args.port c.args.arc c.arc-at.result.now c.in-Ok.item c.requires.actor_in c.requires.head.1 c.index_mut.result.now is c.arc-at.ensures
+          (subst (λ z. MayBeFed c.arc-at.result.now c.args.port z.tally.place c.args.self.now.clock c.in-Ok.item) same c.in-Ok.ensures.ok.may_be_fed);
+      is_sound = c.in-Ok.ensures.ok.sound;
+      has_epoch = fine.reads (sym fine.running ∙ ran);
+      has_level = omega (arith, sooner, closed);
+      has_room = (omega (arith, counted, few, weight, more, low), omega (arith, few, weight, more, low));
+    }
 
-pub feed_into-requires-clause-within : goal.feed_into-requires-clause-within
-feed_into-requires-clause-within g c = omega (arith, c.requires.actor_in, c.requires.flow.shaped.readers_len)
-
-pub feed_into-requires-clause-shown : goal.feed_into-requires-clause-shown
-feed_into-requires-clause-shown g c = λ past port. c.requires.flow.shaped.outputs_end c.args.actor port past c.requires.actor_in
+pub feed_into-requires-clause-gives : goal.feed_into-requires-clause-gives
+feed_into-requires-clause-gives g c =
+    record {
+      within = omega (arith, c.requires.actor_in, c.requires.flow.shaped.readers_len);
+      shown = λ past port. c.requires.flow.shaped.outputs_end c.args.actor port past c.requires.actor_in;
+      there = λ port place arc is.
+          let r = arcs-open _ c.args.self.now c.requires.flow c.args.actor c.requires.running port place arc is in
+          (rw c.in-Ok.ensures.size r.0, c.in-Ok.ensures.ok.ended arc ∙ r.1);
+      joined = comes-from c.args.self.now.wires (length c.args.self.now.seats.items) c.requires.flow.shaped c.args.actor;
+      together = c.in-Ok.ensures.ok.together;
+      whole = c.requires.whole;
+    }
 
 pub take_item-requires-clause-there : goal.take_item-requires-clause-there
 take_item-requires-clause-there g c =
@@ -206,9 +191,6 @@ take_item-requires-clause-there g c =
 
 pub take_item-requires-clause-some : goal.take_item-requires-clause-some
 take_item-requires-clause-some g c = ap is_some c.requires.head.1.2
-
-pub feed_into-requires-clause-whole : goal.feed_into-requires-clause-whole
-feed_into-requires-clause-whole g c = c.requires.whole
 
 pub returns-clause-whole : goal.returns-clause-whole
 returns-clause-whole g c = c.in_ok-feed_into.ensures.whole

@@ -74,29 +74,25 @@ returns-in_err-finish_into-clause-err g c =
           (known (g.D.PageDisk.log c.args.disk.now)) (known (g.D.PageDisk.log c.finish_into.new.disk)) c.args.events.now.items c.finish_into.new.events.items
           c.requires.together c.in_err-finish_into.ensures.later.known c.in_err-finish_into.ensures.part c.requires.running;
       plans = plans-stay c.args.self.now c.args.events.now.items c.finish_into.new.events.items c.in_err-finish_into.ensures.part.shown.plans;
-      strange = λ told table agrees holds. c.in_err-finish_into.ensures.honest told;
-      cause = cause-in _ _ _ _ _ _ c.in_err-finish_into.ensures.cause;
+      strange = λ told table agrees holds. c.in_err-finish_into.ensures.fails.honest told;
+      cause = cause-in _ _ _ _ _ _ c.in_err-finish_into.ensures.fails.cause;
       feed =
           fails-here _ _ _ _ _ _ _ c.requires.flow c.requires.together c.in_err-finish_into.ensures.later
-          (feeds-none _ _ _ _ _ _ _ _ _ _ c.in_err-finish_into.ensures.cause);
+          (feeds-none _ _ _ _ _ _ _ _ _ _ c.in_err-finish_into.ensures.fails.cause);
       cost = costs-none _ c.args.self.now c.requires.flow (known (g.D.PageDisk.log c.args.disk.now)) (known (g.D.PageDisk.log c.finish_into.new.disk)) c.args.self.now.levels n n refl;
-      too_much = none-too-much _ _ _ _ _ _ (counts-none _ _ _ _ _ _ c.in_err-finish_into.ensures.cause);
+      too_much = none-too-much _ _ _ _ _ _ (counts-none _ _ _ _ _ _ c.in_err-finish_into.ensures.fails.cause);
     })
 
-pub finish_into-requires-clause-there : goal.finish_into-requires-clause-there
-finish_into-requires-clause-there g c = arcs-open _ c.args.self.now c.requires.flow c.args.actor c.requires.running
-
-pub finish_into-requires-clause-joined : goal.finish_into-requires-clause-joined
-finish_into-requires-clause-joined g c = comes-from c.args.self.now.wires (length c.args.self.now.seats.items) c.requires.flow.shaped c.args.actor
-
-pub finish_into-requires-clause-within : goal.finish_into-requires-clause-within
-finish_into-requires-clause-within g c = omega (arith, c.requires.actor_in, c.requires.flow.shaped.readers_len)
-
-pub finish_into-requires-clause-shown : goal.finish_into-requires-clause-shown
-finish_into-requires-clause-shown g c = λ past port. c.requires.flow.shaped.outputs_end c.args.actor port past c.requires.actor_in
-
-pub finish_into-requires-clause-together : goal.finish_into-requires-clause-together
-finish_into-requires-clause-together g c = c.requires.together
+pub finish_into-requires-clause-gives : goal.finish_into-requires-clause-gives
+finish_into-requires-clause-gives g c =
+    record {
+      within = omega (arith, c.requires.actor_in, c.requires.flow.shaped.readers_len);
+      shown = λ past port. c.requires.flow.shaped.outputs_end c.args.actor port past c.requires.actor_in;
+      there = arcs-open _ c.args.self.now c.requires.flow c.args.actor c.requires.running;
+      joined = comes-from c.args.self.now.wires (length c.args.self.now.seats.items) c.requires.flow.shaped c.args.actor;
+      together = c.requires.together;
+      whole = c.requires.whole;
+    }
 
 pub finish_into-requires-clause-is_valid : goal.finish_into-requires-clause-is_valid
 finish_into-requires-clause-is_valid g c =
@@ -109,9 +105,6 @@ end_arcs-requires-clause-few g c = c.requires.flow.shaped.few_arcs
 
 pub end_arcs-requires-clause-lanes : goal.end_arcs-requires-clause-lanes
 end_arcs-requires-clause-lanes g c = c.in_ok-finish_into.ensures.finished.onward.sent.lanes ∙ c.requires.flow.lanes
-
-pub finish_into-requires-clause-whole : goal.finish_into-requires-clause-whole
-finish_into-requires-clause-whole g c = c.requires.whole
 
 pub returns-clause-whole : goal.returns-clause-whole
 returns-clause-whole g c = c.in_ok-finish_into.ensures.whole

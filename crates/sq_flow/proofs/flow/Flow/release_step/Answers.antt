@@ -148,11 +148,11 @@ returns-in-Err-clause-err g c =
       plans =
           plans-front _ c.args.self.now c.requires.flow pos c.args.source c.index_mut.result.now c.first_of.new.stream c.in_ok-tuple.tuple c.requires.next at c.in_ok-tuple.ensures.ok _ _ _ _ _ did
           c.send_one.new.queues (with_item c.args.self.now.sources c.args.source c.first_of.new.stream) (with_item c.close_before.new.counts c.args.source (c.index_mut-2.result.now + 1)) refl counted;
-      strange = λ told table agrees holds. c.in-Err.ensures.honest told;
-      cause = cause-in _ _ _ _ _ _ c.in-Err.ensures.cause;
-      feed = fails-here _ _ _ _ _ _ _ c.requires.flow c.requires.together c.in-Err.ensures.later (feeds-none _ _ _ _ _ _ _ _ _ _ c.in-Err.ensures.cause);
+      strange = λ told table agrees holds. c.in-Err.ensures.fails.honest told;
+      cause = cause-in _ _ _ _ _ _ c.in-Err.ensures.fails.cause;
+      feed = fails-here _ _ _ _ _ _ _ c.requires.flow c.requires.together c.in-Err.ensures.later (feeds-none _ _ _ _ _ _ _ _ _ _ c.in-Err.ensures.fails.cause);
       cost = costs-none _ c.args.self.now c.requires.flow (known (g.D.PageDisk.log c.args.disk.now)) (known (g.D.PageDisk.log c.send_one.new.disk)) c.close_before.new.levels n n refl;
-      too_much = none-too-much _ _ _ _ _ _ (counts-none _ _ _ _ _ _ c.in-Err.ensures.cause);
+      too_much = none-too-much _ _ _ _ _ _ (counts-none _ _ _ _ _ _ c.in-Err.ensures.fails.cause);
     })
 
 pub send_one-requires-clause-there : goal.send_one-requires-clause-there
