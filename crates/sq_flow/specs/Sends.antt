@@ -38,6 +38,14 @@ pub record Pushes (before after : Queues) (was is : Option Pages) (more : ℕ �
   pub items : Tells is → (arc : ℕ) → spread_all (items_on after is arc) ≡ spread_all (items_on before was arc) ++ more arc
   pub fine : Tells is → (time : ℕ) → upto time → ((arc : ℕ) → AllFine time (items_on before was arc)) → (arc : ℕ) → AllFine time (items_on after is arc)
 
+-- an actor may give an item on at a port: none of the arcs there has ended, none comes from an output, and no fault was met
+pub record MayPass (wires : Wires) (actor port : ℕ) (queues : Queues) (was : Option Pages) (failed : Option RunErr) : Type 0 where
+  pub within : actor < length wires.readers.items
+  pub shown : wires.shown ≤ actor → arcs_from wires actor port ≡ []
+  pub there : (place arc : ℕ) → slice_get (arcs_from wires actor port) place ≡ Some arc → (arc < size queues) × ((face queues arc).ended ≡ false)
+  pub together : Together queues was
+  pub whole : failed ≡ None
+
 -- an actor may give: none of its arcs has ended, none comes from an output, and no fault was met
 pub record MayGive (wires : Wires) (actor : ℕ) (queues : Queues) (was : Option Pages) (failed : Option RunErr) : Type 0 where
   pub within : actor < length wires.readers.items

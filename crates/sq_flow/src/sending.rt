@@ -9,7 +9,7 @@ ghost use Rattle.sq_pool.specs.Trust.{IsLater, known};
 ghost use Rattle.sq_queue.specs.Faces.{face, size, Together};
 ghost use Rattle.sq_flow.specs.Causes.{of_queue, fault_or, FailsOver};
 ghost use Rattle.sq_flow.specs.Wiring.{arcs_from, times_in};
-ghost use Rattle.sq_flow.specs.Sends.{many, Pushes, MayGive};
+ghost use Rattle.sq_flow.specs.Sends.{many, Pushes, MayPass};
 ghost use Rattle.sq_flow.specs.Events.{lines_of, drops_of, of_drop, ShowsIn};
 ghost use Rattle.sq_flow.specs.Shows.{IsShown};
 ghost use Rattle.sq_flow.specs.Plans.{plans_of};
@@ -179,7 +179,7 @@ pub(crate) fn pass_on<D: PageDisk>(
     events: &mut Vec<Event>,
     failed: &mut Option<RunErr>,
 ) -> Result<(), AllocError>
-    requires gives { MayGive wires.now actor queues.old (known (D.log disk.old)) failed.old }
+    requires gives { MayPass wires.now actor port queues.old (known (D.log disk.old)) failed.old }
     requires sound { IsSoundItem item }
     ensures sent { OnOk result (Pushes queues.old queues.new (known (D.log disk.old)) (known (D.log disk.new))
         (λ arc. many (times_in arc (arcs_from wires.now actor port)) (spread item)) (λ time. item.time ≤ time)

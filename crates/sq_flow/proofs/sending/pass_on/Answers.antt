@@ -11,7 +11,7 @@ use Rattle.sq_words.proofs.Results.{OnErr_from, OnOk_weaker}
 pub returns-then-wires-actor-clause-sent : goal.returns-then-wires-actor-clause-sent
 returns-then-wires-actor-clause-sent g c =
     OnOk_weaker c.show_one.result (λ shown.
-    pushes-none c.args.queues.now (known (g.D.PageDisk.log c.args.disk.now)) _ _ _ c.requires.gives.together (λ arc. ap (λ l. many (times_in arc l) (spread c.args.item)) (c.requires.gives.shown c.if-wires-actor.true c.args.port))) c.show_one.ensures.shown
+    pushes-none c.args.queues.now (known (g.D.PageDisk.log c.args.disk.now)) _ _ _ c.requires.gives.together (λ arc. ap (λ l. many (times_in arc l) (spread c.args.item)) (c.requires.gives.shown c.if-wires-actor.true))) c.show_one.ensures.shown
 
 pub returns-then-wires-actor-clause-shown : goal.returns-then-wires-actor-clause-shown
 returns-then-wires-actor-clause-shown g c =
@@ -33,7 +33,7 @@ pub send_one-requires-clause-within : goal.send_one-requires-clause-within
 send_one-requires-clause-within g c = c.requires.gives.within
 
 pub send_one-requires-clause-there : goal.send_one-requires-clause-there
-send_one-requires-clause-there g c = c.requires.gives.there c.args.port
+send_one-requires-clause-there g c = c.requires.gives.there
 
 pub send_one-requires-clause-together : goal.send_one-requires-clause-together
 send_one-requires-clause-together g c = c.requires.gives.together

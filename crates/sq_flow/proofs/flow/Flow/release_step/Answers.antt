@@ -33,20 +33,21 @@ returns-in-Ok-clause-ok g c =
     let at = slice_get_read sources _ c.args.source c.index_mut.result.now refl c.requires.next.there c.index_mut.ensures.value in
     let pos : 0 < c.args.self.now.levels.epoch = omega (arith, c.epoch.ensures.epoch, c.epoch.ensures.lasts) in
     let next_is = next-is _ _ _ _ c.epoch_of-next.ensures c.epoch.ensures.epoch in
-    let done = c.in_ok-close_before.ensures in
+    let part = c.in_ok-close_before.ensures.closes in
+    let done = c.in_ok-close_before.ensures.ok in
     let did = subst (λ (n : ℕ). ClosedBefore c.args.self.now.planner c.close_before.new.planner c.args.self.now.levels c.close_before.new.levels c.args.self.now.counts.items c.close_before.new.counts.items
     n c.args.events.now.items c.close_before.new.events.items) next_is
     (record {
-      same = done.same;
-      epoch = done.epoch;
+      same = part.same;
+      epoch = part.epoch;
       closed = done.closed;
-      keeps = done.keeps;
+      keeps = part.keeps;
       counts = done.counts;
-      agrees = done.agrees;
+      agrees = part.agrees;
       plans = done.plans;
-      lines = done.lines;
-      drops = done.drops;
-      within = done.within;
+      lines = part.lines;
+      drops = part.drops;
+      within = part.within;
     }) in
     let len = mid-len _ c.args.self.now c.requires.flow pos c.args.source c.index_mut.result.now c.first_of.new.stream c.in_ok-tuple.tuple c.requires.next at c.in_ok-tuple.ensures.ok _ _ _ _ _ did in
     let within : c.args.source < length c.close_before.new.counts.items = omega (arith, len, c.requires.flow.replay.counted, c.requires.next.there) in
@@ -60,7 +61,7 @@ returns-in-Ok-clause-ok g c =
             released-stepped _ c.args.self.now c.requires.flow pos c.args.source c.index_mut.result.now c.first_of.new.stream c.in_ok-tuple.tuple c.requires.next at c.in_ok-tuple.ensures.ok _ _ _ _ _ did
             (with_item c.args.self.now.sources c.args.source c.first_of.new.stream) (with_item c.close_before.new.counts c.args.source (c.index_mut-2.result.now + 1)) refl counted
             (known (g.D.PageDisk.log c.args.disk.now)) (known (g.D.PageDisk.log c.send_one.new.disk)) c.send_one.new.queues c.requires.together (rw (c.none.ensures, c.some.ensures) at c.in-Ok.ensures.sent);
-        keeps = record { faults = c.in-Ok.ensures.faults; later = c.in-Ok.ensures.later; stay = c.in_ok-close_before.ensures.stay };
+        keeps = record { faults = c.in-Ok.ensures.faults; later = c.in-Ok.ensures.later; stay = c.in_ok-close_before.ensures.closes.stay };
         touches =
             released-touches _ c.args.self.now c.requires.flow pos c.args.source c.index_mut.result.now c.first_of.new.stream c.in_ok-tuple.tuple c.requires.next at c.in_ok-tuple.ensures.ok
             (known (g.D.PageDisk.log c.args.disk.now)) (known (g.D.PageDisk.log c.send_one.new.disk)) c.send_one.new.queues (with_item c.args.self.now.sources c.args.source c.first_of.new.stream) c.close_before.new.planner c.close_before.new.levels
@@ -99,13 +100,13 @@ returns-in_err-close_before-clause-err g c =
     let next_is = next-is _ _ _ _ c.epoch_of-next.ensures c.epoch.ensures.epoch in
     rw (p.1, p.2)
     (λ n. record {
-      keeps = record { faults = le_refl _; later = IsLater-refl _; stay = c.in_err-close_before.ensures.stay };
-      closes = agrees-before c.args.self.now.levels c.close_before.new.levels c.in_err-close_before.ensures.keeps c.in_err-close_before.ensures.grows;
-      prefix = lines-stay _ (known (g.D.PageDisk.log c.args.disk.now)) (known (g.D.PageDisk.log c.args.disk.now)) c.args.self.now c.close_before.new.levels c.args.events.now.items c.close_before.new.events.items c.in_err-close_before.ensures.lines c.in_err-close_before.ensures.drops;
+      keeps = record { faults = le_refl _; later = IsLater-refl _; stay = c.in_err-close_before.ensures.closes.stay };
+      closes = agrees-before c.args.self.now.levels c.close_before.new.levels c.in_err-close_before.ensures.closes.keeps c.in_err-close_before.ensures.closes.grows;
+      prefix = lines-stay _ (known (g.D.PageDisk.log c.args.disk.now)) (known (g.D.PageDisk.log c.args.disk.now)) c.args.self.now c.close_before.new.levels c.args.events.now.items c.close_before.new.events.items c.in_err-close_before.ensures.closes.lines c.in_err-close_before.ensures.closes.drops;
       plans =
           plans-none _ c.args.self.now c.requires.flow pos c.args.source c.index_mut.result.now c.first_of.new.stream c.in_ok-tuple.tuple c.requires.next at c.in_ok-tuple.ensures.ok c.close_before.new.levels c.args.events.now.items c.close_before.new.events.items
           (λ all. subst (λ (n : ℕ). (c.args.self.now.levels.closed < n + 1 → Ended all (c.args.self.now.levels.closed - 1) n c.args.self.now.counts.items)
-          → AgreesWith c.args.self.now.levels (level_for c.args.self.now.planner all) → AgreesWith c.close_before.new.levels (level_for c.args.self.now.planner all)) next_is (c.in_err-close_before.ensures.agrees all))
+          → AgreesWith c.args.self.now.levels (level_for c.args.self.now.planner all) → AgreesWith c.close_before.new.levels (level_for c.args.self.now.planner all)) next_is (c.in_err-close_before.ensures.closes.agrees all))
           c.in_err-close_before.ensures.err;
       strange = λ told table agrees holds. tt;
       cause = tt;
@@ -120,20 +121,21 @@ returns-in-Err-clause-err g c =
     let at = slice_get_read sources _ c.args.source c.index_mut.result.now refl c.requires.next.there c.index_mut.ensures.value in
     let pos : 0 < c.args.self.now.levels.epoch = omega (arith, c.epoch.ensures.epoch, c.epoch.ensures.lasts) in
     let next_is = next-is _ _ _ _ c.epoch_of-next.ensures c.epoch.ensures.epoch in
-    let done = c.in_ok-close_before.ensures in
+    let part = c.in_ok-close_before.ensures.closes in
+    let done = c.in_ok-close_before.ensures.ok in
     let did = subst (λ (n : ℕ). ClosedBefore c.args.self.now.planner c.close_before.new.planner c.args.self.now.levels c.close_before.new.levels c.args.self.now.counts.items c.close_before.new.counts.items
     n c.args.events.now.items c.close_before.new.events.items) next_is
     (record {
-      same = done.same;
-      epoch = done.epoch;
+      same = part.same;
+      epoch = part.epoch;
       closed = done.closed;
-      keeps = done.keeps;
+      keeps = part.keeps;
       counts = done.counts;
-      agrees = done.agrees;
+      agrees = part.agrees;
       plans = done.plans;
-      lines = done.lines;
-      drops = done.drops;
-      within = done.within;
+      lines = part.lines;
+      drops = part.drops;
+      within = part.within;
     }) in
     let len = mid-len _ c.args.self.now c.requires.flow pos c.args.source c.index_mut.result.now c.first_of.new.stream c.in_ok-tuple.tuple c.requires.next at c.in_ok-tuple.ensures.ok _ _ _ _ _ did in
     let within : c.args.source < length c.close_before.new.counts.items = omega (arith, len, c.requires.flow.replay.counted, c.requires.next.there) in
@@ -142,9 +144,9 @@ returns-in-Err-clause-err g c =
     let counted = ap (λ n. set c.close_before.new.counts.items c.args.source (n + 1)) (sym read) in
     rw (c.fault_of.ensures, c.take.ensures.value)
     (λ n. record {
-      keeps = record { faults = c.in-Err.ensures.faults; later = c.in-Err.ensures.later; stay = c.in_ok-close_before.ensures.stay };
-      closes = agrees-before c.args.self.now.levels c.close_before.new.levels c.in_ok-close_before.ensures.keeps c.in_ok-close_before.ensures.grows;
-      prefix = lines-stay _ (known (g.D.PageDisk.log c.args.disk.now)) (known (g.D.PageDisk.log c.send_one.new.disk)) c.args.self.now c.close_before.new.levels c.args.events.now.items c.close_before.new.events.items c.in_ok-close_before.ensures.lines c.in_ok-close_before.ensures.drops;
+      keeps = record { faults = c.in-Err.ensures.faults; later = c.in-Err.ensures.later; stay = c.in_ok-close_before.ensures.closes.stay };
+      closes = agrees-before c.args.self.now.levels c.close_before.new.levels c.in_ok-close_before.ensures.closes.keeps c.in_ok-close_before.ensures.closes.grows;
+      prefix = lines-stay _ (known (g.D.PageDisk.log c.args.disk.now)) (known (g.D.PageDisk.log c.send_one.new.disk)) c.args.self.now c.close_before.new.levels c.args.events.now.items c.close_before.new.events.items c.in_ok-close_before.ensures.closes.lines c.in_ok-close_before.ensures.closes.drops;
       plans =
           plans-front _ c.args.self.now c.requires.flow pos c.args.source c.index_mut.result.now c.first_of.new.stream c.in_ok-tuple.tuple c.requires.next at c.in_ok-tuple.ensures.ok _ _ _ _ _ did
           c.send_one.new.queues (with_item c.args.self.now.sources c.args.source c.first_of.new.stream) (with_item c.close_before.new.counts c.args.source (c.index_mut-2.result.now + 1)) refl counted;
@@ -209,7 +211,7 @@ index_mut-requires g c = omega (arith, c.requires.next.there, c.args.self.now.so
 
 pub index_mut-requires-2 : goal.index_mut-requires-2
 index_mut-requires-2 g c =
-    let len = closed-len _ c.args.self.now.counts.items c.close_before.new.counts.items c.in_ok-close_before.ensures.counts in
+    let len = closed-len _ c.args.self.now.counts.items c.close_before.new.counts.items c.in_ok-close_before.ensures.ok.counts in
     omega (arith, len, c.requires.flow.replay.counted, c.requires.next.there, c.close_before.new.counts.ok.0)
 
 pub send_one-requires-clause-together : goal.send_one-requires-clause-together
@@ -220,11 +222,11 @@ send_one-requires-clause-within g c = let many = c.requires.flow.shaped.readers_
 
 pub overflow_add-index_mut : goal.overflow_add-index_mut
 overflow_add-index_mut g c =
-    let len = closed-len _ c.args.self.now.counts.items c.close_before.new.counts.items c.in_ok-close_before.ensures.counts in
+    let len = closed-len _ c.args.self.now.counts.items c.close_before.new.counts.items c.in_ok-close_before.ensures.ok.counts in
     let within : c.args.source < length c.close_before.new.counts.items = omega (arith, len, c.requires.flow.replay.counted, c.requires.next.there) in
     let read = get_or_from_slice_get c.close_before.new.counts.items c.args.source c.index_mut-2.result.now 0
     (slice_get_read c.close_before.new.counts.items _ c.args.source c.index_mut-2.result.now refl within c.index_mut-2.ensures.value) in
-    let low = closed-low _ c.args.self.now.counts.items c.close_before.new.counts.items c.in_ok-close_before.ensures.counts c.args.source in
+    let low = closed-low _ c.args.self.now.counts.items c.close_before.new.counts.items c.in_ok-close_before.ensures.ok.counts c.args.source in
     let few = c.requires.flow.replay.few_tuples c.args.source in
     record { fits = omega (arith, read, low, few) }
 

@@ -1,8 +1,24 @@
+use Rattle.std.proofs.Common.{◌+◌, ap, le_refl, sym}
 use Rattle.std.proofs.lemmas.Result.{err_from_is_err_and}
+use Rattle.sq_pool.specs.Trust.{known}
+use Rattle.sq_pool.proofs.TrustLemmas.{IsLater-refl}
 use Rattle.sq_flow.proofs.flow.Flow.replay_step.Goals as goal
+use Rattle.sq_words.proofs.Prefixes.{prefix_itself}
 
 pub returns-in-None-clause-ok : goal.returns-in-None-clause-ok
-returns-in-None-clause-ok g c = λ n. c.end_step.ensures (g.D.PageDisk.log c.args.disk.now) (g.D.PageDisk.faults c.args.disk.now) c.args.events.now.items n c.requires.together
+returns-in-None-clause-ok g c =
+    let end = c.end_step.ensures in
+    λ n. record {
+      moves = record {
+        stepped = end.stepped (known (g.D.PageDisk.log c.args.disk.now)) c.args.events.now.items c.requires.together;
+        keeps = record { faults = le_refl _; later = IsLater-refl _; stay = prefix_itself _ };
+        touches = end.touches;
+        cost = ap (λ k. n + k) (sym end.taken);
+      };
+      lowers = end.lowers;
+      took = end.took;
+      waits = tt;
+    }
 
 pub returns-in_ok-release_step-in-Some-clause-ok : goal.returns-in_ok-release_step-in-Some-clause-ok
 returns-in_ok-release_step-in-Some-clause-ok g c = c.in_ok-release_step-in-Some.ensures.ok

@@ -28,4 +28,12 @@ returns-in_err-pass_on-clause-came g c = λ start came.
     c.pass_on.new.failed c.in_err-pass_on.ensures.err c.in_err-pass_on.ensures.fails.cause c.in_err-pass_on.ensures.fails.honest c.in_err-pass_on.ensures.unsent
 
 pub pass_on-requires-clause-gives : goal.pass_on-requires-clause-gives
-pass_on-requires-clause-gives g c = c.requires.is_ready
+pass_on-requires-clause-gives g c =
+    let opened = c.requires.is_ready in
+    record {
+      within = opened.within;
+      shown = λ past. opened.shown past c.args.port;
+      there = opened.there c.args.port;
+      together = opened.together;
+      whole = opened.whole;
+    }
