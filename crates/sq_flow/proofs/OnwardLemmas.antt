@@ -1,6 +1,6 @@
 -- What the outlet of an actor keeps.
-use Rattle.std.proofs.Common.{◌≡◌, ℕ, ◌≤◌, ◌<◌, Bool, true, false, List, [], ◌∷◌, ◌++◌, length, Option, Some, None, refl, sym, ◌∙◌, subst₂, Bor, append-nil, arith}
-use Rattle.std.specs.Prelude.{⊤, IfSome, Vec, slice_get}
+use Rattle.std.proofs.Common.{◌≡◌, ℕ, ◌≤◌, ◌<◌, Bool, false, List, [], ◌∷◌, ◌++◌, Option, Some, None, refl, sym, ◌∙◌, subst₂, Bor, append-nil, arith}
+use Rattle.std.specs.Prelude.{⊤, IfSome, Vec}
 use Rattle.std.specs.declared.alloc.Global.{Global}
 use Rattle.sq_item.specs.declared.Item.{Item}
 use Rattle.sq_words.specs.Lists.{IsPrefixOf, contains_number}
@@ -12,7 +12,6 @@ use Rattle.sq_oper.specs.declared.outs.Event.{Event}
 use Rattle.sq_pool.specs.Trust.{IsLater, Tells, known}
 use Rattle.sq_pool.proofs.TrustLemmas.{IsLater-refl, IsLater-trans}
 use Rattle.sq_queue.specs.declared.Queues.{Queues}
-use Rattle.sq_queue.specs.Faces.{face, size, Together}
 use Rattle.sq_road.specs.Levels.{LevelTable}
 use Rattle.sq_flow.specs.declared.errors.RunErr.{RunErr}
 use Rattle.sq_flow.specs.declared.errors.RunErr.TheVariants as error

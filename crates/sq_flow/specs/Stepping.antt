@@ -16,7 +16,7 @@ use Rattle.sq_flow.specs.declared.flow.Flow.{Flow}
 use Rattle.sq_flow.specs.declared.flow.Did.{Did}
 use Rattle.sq_flow.specs.declared.steps.Progress.{Progress}
 use Rattle.sq_flow.specs.declared.errors.RunErr.{RunErr}
-use Rattle.sq_flow.specs.Flows.{Stepped, ShowsPrefix, NoneStrange, CostsFed, StepCosts, TooMuchOnly, FailsAt, Lowers, measure_of, taken_in_all}
+use Rattle.sq_flow.specs.Flows.{Stepped, ShowsPrefix, NoneStrange, CostsFed, StepCosts, TooMuchOnly, FailsAt, IsFlow, Lowers, measure_of, taken_in_all}
 use Rattle.sq_flow.specs.Plans.{PlansPrefix}
 use Rattle.sq_flow.specs.Causes.{IsCauseIn}
 use Rattle.sq_flow.specs.Readiness.{IsReady, TouchesOnly, WaitsOnly, FallsBy, Took, TookBy}
@@ -32,6 +32,11 @@ pub record Stage (O : Type 0) : Type 0 where
 
 abbrev pub stage : {O D : Type 0} → DiskGhosts D → Flow O → D → List Event → ℕ → Stage O
 stage tells flow disk events steps = record { flow = flow; log = tells.log disk; faults = tells.faults disk; events = events; steps = steps }
+
+-- a sound flow, whose queues go with what is known of the pages
+pub record Holds {O : Type 0} (m : Ghosts O) (e : Flow O) (was : Option Pages) : Type 0 where
+  pub flow : IsFlow m e
+  pub together : Together e.queues was
 
 -- what any call keeps: the disk forgets nothing, no count of faults falls, and nothing that was shown is taken back
 pub record Remains {O : Type 0} (before after : Stage O) : Type 0 where

@@ -144,7 +144,7 @@ impl<O: Operator + Drop> Flow<O> {
     ghost use Rattle.sq_flow.specs.Wiring.{arcs_read};
     ghost use Rattle.sq_heads.specs.Heads.{NextUpTo};
     ghost use Rattle.sq_flow.specs.Seats.{done_at};
-    ghost use Rattle.sq_flow.specs.Stepping.{stage, StepOk, StepErr, StepsAlone};
+    ghost use Rattle.sq_flow.specs.Stepping.{Holds, stage, StepOk, StepErr, StepsAlone};
 
     /// Feeds an operator the first item of an arc.
     #[inline(always)]
@@ -158,8 +158,7 @@ impl<O: Operator + Drop> Flow<O> {
         steps: &mut Steps<L>,
         failed: &mut Option<RunErr>,
     ) -> Result<(), RunErr>
-        requires flow { IsFlow O.Operator self.old }
-        requires together { Together self.old.queues (known (D.log disk.old)) }
+        requires holds { Holds O.Operator self.old (known (D.log disk.old)) }
         requires whole { failed.old ≡ None }
         requires actor_in { actor < length self.old.seats.items }
         requires head { (time : ℕ) × NextUpTo (arcs_read self.old.wires actor)
@@ -206,8 +205,7 @@ impl<O: Operator + Drop> Flow<O> {
         events: &mut Vec<Event>,
         failed: &mut Option<RunErr>,
     ) -> Result<(), RunErr>
-        requires flow { IsFlow O.Operator self.old }
-        requires together { Together self.old.queues (known (D.log disk.old)) }
+        requires holds { Holds O.Operator self.old (known (D.log disk.old)) }
         requires whole { failed.old ≡ None }
         requires actor_in { actor < length self.old.seats.items }
         requires head { NextUpTo (arcs_read self.old.wires actor)
@@ -240,8 +238,7 @@ impl<O: Operator + Drop> Flow<O> {
         events: &mut Vec<Event>,
         failed: &mut Option<RunErr>,
     ) -> Result<(), RunErr>
-        requires flow { IsFlow O.Operator self.old }
-        requires together { Together self.old.queues (known (D.log disk.old)) }
+        requires holds { Holds O.Operator self.old (known (D.log disk.old)) }
         requires whole { failed.old ≡ None }
         requires next { IsNextSource self.old.sources.items source }
         ensures ok { OnOk result ((n : ℕ) → StepOk O.Operator (length self.old.seats.items) Did.Fed (stage D.PageDisk self.old disk.old events.old.items n)
