@@ -1,6 +1,6 @@
 //! The engine: a flow with its ready list.
 
-ghost use Rattle.std.specs.Prelude.{◌≡◌, ◌⊎◌, ◌-◌, ◌^◌, ℕ, ◌+◌, ◌≤◌, ◌<◌, true, false, [], ◌∷◌, Option, Some, OnOk, OnErr, IfOk, IfErr, length, map, slice_get};
+ghost use Rattle.std.specs.Prelude.{◌≡◌, ◌⊎◌, ◌-◌, ℕ, ◌+◌, ◌≤◌, ◌<◌, true, false, [], ◌∷◌, Option, Some, OnOk, OnErr, IfOk, IfErr, length, map, slice_get};
 ghost use Rattle.sq_road.specs.Levels.{AgreesWith};
 ghost use Rattle.sq_outside.specs.Disks.{Pages};
 ghost use Rattle.sq_pool.specs.Trust.{IsLater, known};
