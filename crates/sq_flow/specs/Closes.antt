@@ -9,8 +9,8 @@ use Rattle.sq_oper.specs.declared.outs.Event.{Event}
 use Rattle.sq_flow.specs.Events.{lines_of, drops_of, ShowsIn}
 use Rattle.sq_flow.specs.Plans.{plans_of}
 
--- epochs before one were closed, or none: no level that was closed is another, what agreed with the closed ones by what the counts say
--- agrees still, and no tuple and no decision was shown
+-- epochs before one were closed, or none: the levels of those that were closed stay, the others are those that the counts plan, and no
+-- tuple and no decision was shown
 pub record ClosesSome (planner planner' : Setting) (levels levels' : LevelTable) (before : List ℕ) (next : ℕ) (events events' : List Event) : Type 0 where
   pub same : planner' ≡ planner
   pub epoch : levels'.epoch ≡ levels.epoch
