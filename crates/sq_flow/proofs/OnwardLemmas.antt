@@ -1,6 +1,6 @@
 -- What the outlet of an actor keeps.
-use Rattle.std.proofs.Common.{◌≡◌, ℕ, ◌≤◌, ◌<◌, Bool, true, false, List, [], ◌∷◌, ◌++◌, length, Option, Some, None, refl, sym, ◌∙◌, subst₂, Bor, append-nil, arith}
-use Rattle.std.specs.Prelude.{⊤, IfSome, Vec, slice_get}
+use Rattle.std.proofs.Common.{◌≡◌, ℕ, ◌≤◌, ◌<◌, Bool, false, List, [], ◌∷◌, ◌++◌, Option, Some, None, refl, sym, ◌∙◌, subst₂, Bor, append-nil, arith}
+use Rattle.std.specs.Prelude.{⊤, IfSome, Vec}
 use Rattle.std.specs.declared.alloc.Global.{Global}
 use Rattle.sq_item.specs.declared.Item.{Item}
 use Rattle.sq_words.specs.Lists.{IsPrefixOf, contains_number}
@@ -12,7 +12,6 @@ use Rattle.sq_oper.specs.declared.outs.Event.{Event}
 use Rattle.sq_pool.specs.Trust.{IsLater, Tells, known}
 use Rattle.sq_pool.proofs.TrustLemmas.{IsLater-refl, IsLater-trans}
 use Rattle.sq_queue.specs.declared.Queues.{Queues}
-use Rattle.sq_queue.specs.Faces.{face, size, Together}
 use Rattle.sq_road.specs.Levels.{LevelTable}
 use Rattle.sq_flow.specs.declared.errors.RunErr.{RunErr}
 use Rattle.sq_flow.specs.declared.errors.RunErr.TheVariants as error
@@ -96,13 +95,9 @@ module _ {D : Type 0} (log : D → DiskLog) (faults : D → ℕ) where
       (subst₂ (λ (wires : Bor Wires) (actor : ℕ). IsShown wires.now actor s.noted.items s.noted.drops start.events.now.items s.events.now.items) came.holds.wires came.holds.actor came.shown)
 
   -- what an outlet became that was opened
-  pub came-open : (start s : Onward D) → s.actor < length s.wires.now.readers.items → (s.wires.now.shown ≤ s.actor → (port : ℕ) → arcs_from s.wires.now s.actor port ≡ [])
-      → ((port place arc : ℕ) → slice_get (arcs_from s.wires.now s.actor port) place ≡ Some arc → (arc < size s.queues.now) × ((face s.queues.now arc).ended ≡ false))
-      → ((port arc : ℕ) → contains_number (arcs_from s.wires.now s.actor port) arc ≡ true → is_sent_by s.wires.now s.actor arc ≡ true)
-      → Together s.queues.now (known (log s.disk.now)) → s.failed.now ≡ None → (s.noted.items ≡ []) × (s.noted.drops ≡ [])
+  pub came-open : (start s : Onward D) → IsOpen log s → (s.noted.items ≡ []) × (s.noted.drops ≡ [])
       → ((before : Onward D) → Came log faults before s → Came log faults before start) → Came log faults s start
-  came-open start s within shown there joined together whole none came =
-      came s (came-first s (record { within = within; shown = shown; there = there; joined = joined; together = together; whole = whole }) none.0 none.1)
+  came-open start s opened none came = came s (came-first s opened none.0 none.1)
 
   -- a feed and an end, where the outlet was opened
   module _ {O : Type 0} (m : Ghosts O) (seat seat' : Seat O) (start s : Onward D) (came : Came log faults start s)

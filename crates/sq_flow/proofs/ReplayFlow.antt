@@ -1,6 +1,6 @@
 -- What the replay keeps.
 use Rattle.std.proofs.Common.{◌≡◌, ◌≢◌, ℕ, zero, suc, ◌+◌, ◌/◌, ◌<◌, ◌≤◌, eqb, cond, Bool, true, false, not, ◌||◌, List, [], ◌∷◌, ◌++◌, length, set, Option, Some, None, refl, ap, sym, ◌∙◌, append-nil, arith, subst}
-use Rattle.std.specs.Prelude.{slice_get, slice_index, Vec}
+use Rattle.std.specs.Prelude.{is_some, slice_get, slice_index, Vec}
 use Rattle.std.specs.declared.alloc.Global.{Global}
 use Rattle.std.proofs.lemmas.Option.{slice_get_past, same_Some}
 use Rattle.std.proofs.lemmas.List.{length-set, get_or-set_same, get_or-set_other}
@@ -25,13 +25,13 @@ use Rattle.sq_outside.specs.Disks.{Pages}
 use Rattle.sq_pool.specs.Trust.{Tells}
 use Rattle.sq_queue.specs.Faces.{face, size, frames, items_on, Together}
 use Rattle.sq_replay.specs.RecordedTuples.{Recorded}
-use Rattle.sq_flow.specs.Sends.{many, Pushes}
+use Rattle.sq_flow.specs.Sends.{many, is_sent_by, Pushes}
 use Rattle.sq_flow.specs.Sources.{BeginsLeast, IsNextSource}
 use Rattle.sq_flow.proofs.PlanLemmas.{rise-later}
 use Rattle.sq_flow.proofs.DropLemmas.{owns-later}
 use Rattle.sq_flow.proofs.ReleasedPlans.{ClosedBefore, agrees-before, epoch_there, not-before, mid-len, mid-low, planned-after, plans-go}
 use Rattle.sq_flow.specs.Readiness.{TouchesOnly}
-use Rattle.sq_flow.proofs.TouchLemmas.{away-from, stands-pushed}
+use Rattle.sq_flow.proofs.TouchLemmas.{away-from, stands-grows, stands-pushed}
 use Rattle.sq_flow.proofs.WireLemmas.{one-sent, comes-from}
 use Rattle.sq_flow.specs.declared.seats.Seat.{Seat}
 use Rattle.sq_flow.specs.declared.flow.Flow.{Flow}
@@ -378,6 +378,24 @@ module _ {O : Type 0} (m : Ghosts O) (e : Flow O) (flow : IsFlow m e) where
               let r = flow.shaped.replay_is in
               let away : actor ≢ e.wires.replay = eqb-no actor e.wires.replay k in
               some (slice_get e.seats.items actor) (slice_get-not_none e.seats.items actor (omega (arith, r, away, low)))
+
+  pub ended-touches : (q' : Queues)
+      → ((k : ℕ) → k < length e.wires.arcs.items → (face q' k).ended ≡ ((face e.queues k).ended || eqb (from_of (slice_get e.wires.arcs.items k)) e.wires.replay))
+      → ((k : ℕ) → (face q' k).first ≡ (face e.queues k).first)
+      → ((k : ℕ) → is_sent_by e.wires e.wires.replay k ≡ false → face q' k ≡ face e.queues k)
+      → TouchesOnly (length e.seats.items) e (record e { over = true; queues = q' })
+  ended-touches q' ended first same =
+      record {
+        apart = λ arc low to from. let r = flow.shaped.replay_is in same arc (away-from e.wires e.wires.replay arc (λ is. from (is ∙ r)));
+        grows = λ arc low to h.
+            stands-grows (face e.queues arc) (face q' arc) (λ some. ap (λ (o : Option ℕ). is_some o) (first arc) ∙ some)
+            (λ over. ended arc low ∙ ap (λ b. b || eqb (from_of (slice_get e.wires.arcs.items arc)) e.wires.replay) over) h;
+        others = λ other low ne. some-done (slice_get e.seats.items other) (slice_get-not_none e.seats.items other (omega (arith, low, ne)));
+      }
+    where
+      some-done : (o : Option (Seat O)) → o ≢ None → done_at true o ≡ done_at e.over o
+      some-done None n = absurd (n refl)
+      some-done (Some s) n = refl
 
 -- where no tuple and no decision was shown
 pub lines-stay : {O : Type 0} (m : Ghosts O) (was is : Option Pages) (e : Flow O) (levels : LevelTable) (events events' : List Event)

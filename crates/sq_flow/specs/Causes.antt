@@ -1,7 +1,9 @@
 -- Why a step failed, and what shows it.
-use Rattle.std.specs.Prelude.{◌≡◌, ◌≢◌, ℕ, ◌+◌, ◌^◌, ◌≤◌, ⊤, ◌∷◌, length, Option, Some, None, slice_get}
+use Rattle.std.specs.Prelude.{◌≡◌, ◌≢◌, ◌⊎◌, ℕ, ◌+◌, ◌^◌, ◌≤◌, ⊤, List, ◌∷◌, length, Option, Some, None, slice_get}
 use Rattle.sq_item.specs.declared.Item.{Item}
+use Rattle.sq_item.specs.SoundItems.{IsSoundItem}
 use Rattle.sq_item.specs.Things.{spread}
+use Rattle.sq_oper.specs.declared.tally.Moment.{Moment}
 use Rattle.sq_outside.specs.Disks.{DiskLog}
 use Rattle.sq_outside.specs.Faults.{Rose}
 use Rattle.sq_pool.specs.Trust.{Tells, known}
@@ -9,13 +11,13 @@ use Rattle.sq_paged.specs.Fronts.{IsPopped}
 use Rattle.sq_queue.specs.declared.Queues.{Queues}
 use Rattle.sq_paged.specs.declared.store.QueueErr.{QueueErr}
 use Rattle.sq_paged.specs.declared.store.QueueErr.TheVariants as queue
-use Rattle.sq_queue.specs.Faces.{IsFirst, IsRefusal, face, items_on}
+use Rattle.sq_queue.specs.Faces.{IsFirst, IsRefusal, face, frames, items_on, Together}
 use Rattle.sq_flow.specs.declared.wires.Arc.{Arc}
 use Rattle.sq_flow.specs.declared.seats.Seat.{Seat}
 use Rattle.sq_flow.specs.declared.flow.Flow.{Flow}
 use Rattle.sq_flow.specs.declared.errors.RunErr.{RunErr}
 use Rattle.sq_flow.specs.declared.errors.RunErr.TheVariants as error
-use Rattle.sq_flow.specs.Takes.{MayBeFed}
+use Rattle.sq_flow.specs.Takes.{MayBeFed, NotChanged}
 use Rattle.sq_flow.specs.Wiring.{arcs_read}
 
 -- the error of a step for that of its queues
@@ -87,6 +89,30 @@ IsQueueCause queues was is before now (error.NotAPage page bytes) = IsPageRefuse
 IsQueueCause queues was is before now (error.Strange arc item) = ⊥
 IsQueueCause queues was is before now error.TooMuch = ⊥
 IsQueueCause queues was is before now error.Memory = ⊤
+
+-- why a call over queues failed: what shows it, and where the disk is known behind it, that no disk that is known brings about another error
+pub record FailsOver (queues : Queues) (was is : DiskLog) (before now : ℕ) (e : RunErr) : Type 0 where
+  pub cause : IsQueueCause queues was is before now e
+  pub honest : Tells (known is) → NotChanged was.honest e
+
+-- an item was taken from an arc, and it may be fed; the other arcs have what they had
+pub record TakesItem (was is : DiskLog) (before queues : Queues) (at : Arc) (arc port : ℕ) (place : Moment) (clock : ℕ) (item : Item) : Type 0 where
+  pub sound : IsSoundItem item
+  pub may_be_fed : MayBeFed at port place clock item
+  pub taken : HasTaken was is before queues arc item
+  pub ended : (other : ℕ) → (face queues other).ended ≡ (face before other).ended
+  pub others : Tells (known is) → (other : ℕ) → other ≢ arc → items_on queues (known is) other ≡ items_on before (known was) other
+  pub together : Together queues (known is)
+  pub framed : frames queues ≡ frames before
+
+-- none was taken that may be fed: the call over the queues failed, or the item may not be fed. Where the disk is known behind it, and the
+-- item that stands first may be fed, no disk that is known brings about another error
+pub record TakesNone (was is : DiskLog) (faults faults' : ℕ) (before queues : Queues) (at : Arc) (arc port : ℕ) (place : Moment) (clock : ℕ) (e : RunErr) : Type 0 where
+  pub cause : IsQueueCause queues was is faults faults' e
+      ⊎ ((item : Item) × (e ≡ error.Strange arc item) × HasTaken was is before queues arc item × ¬ (MayBeFed at port place clock item))
+  pub honest : Tells (known is) → ((item : Item) (more : List Item) → items_on before (known was) arc ≡ item ∷ more → MayBeFed at port place clock item)
+      → NotChanged was.honest e
+  pub counts : e ≢ error.TooMuch
 
 -- what shows why a step failed: the disk's log and its faults before and after it, and the flow as it stands after it
 abbrev pub IsCauseIn : {O : Type 0} → Flow O → DiskLog → DiskLog → ℕ → ℕ → RunErr → Type 0

@@ -1,7 +1,8 @@
 -- What an operator in its seat gives onward.
-use Rattle.std.specs.Prelude.{ℕ, List, [], ◌++◌, Option}
+use Rattle.std.specs.Prelude.{◌≡◌, ℕ, ◌-◌, ◌^◌, ◌/◌, ◌<◌, true, List, [], ◌++◌, Option}
 use Rattle.sq_words.specs.Lists.{IsPrefixOf}
 use Rattle.sq_item.specs.declared.Item.{Item}
+use Rattle.sq_item.specs.SoundItems.{IsSoundItem}
 use Rattle.sq_outside.specs.Disks.{Pages}
 use Rattle.sq_road.specs.Levels.{LevelTable, AgreesWith}
 use Rattle.sq_oper.specs.declared.operator.Operator.{Ghosts}
@@ -16,6 +17,15 @@ use Rattle.sq_flow.specs.Wiring.{AllOutsFine}
 use Rattle.sq_flow.specs.Sends.{sent_to, is_sent_by, Pushes}
 use Rattle.sq_flow.specs.Seats.{IsFutureOf, FedSeat, FinishedSeat}
 use Rattle.sq_flow.specs.Shows.{IsShown}
+
+-- a seat may be fed an item at a port, where these levels are known: it runs, the item may come to it, and it can still be counted
+pub record MayFeed {O : Type 0} (m : Ghosts O) (levels : LevelTable) (port : ℕ) (item : Item) (seat : Seat O) : Type 0 where
+  pub is_valid : m.valid seat.op × (m.running seat.op ≡ true)
+  pub may_come : IsFutureOf m seat.op (entries port item)
+  pub is_sound : IsSoundItem item
+  pub has_epoch : m.reads seat.op levels.epoch ≡ true
+  pub has_level : item.time / levels.epoch < levels.closed
+  pub has_room : (m.taken seat.op < 2 ^ 62 - 1) × (seat.tally.taken < 2 ^ 62 - 1)
 
 -- what an actor gave, these items and these batches, went into the queues, or was shown
 pub record GoesOnward (wires : Wires) (actor : ℕ) (items : List (ℕ × Item)) (drops : List Decision) (queues queues' : Queues) (was is : Option Pages)

@@ -1,25 +1,17 @@
 -- The outlet of an actor.
-use Rattle.std.specs.Prelude.{◌≡◌, ℕ, ◌<◌, ◌≤◌, true, false, [], length, Some, None, IfSome, slice_get}
+use Rattle.std.specs.Prelude.{◌≡◌, ℕ, ◌≤◌, None, IfSome}
 use Rattle.sq_outside.specs.Disks.{DiskLog}
 use Rattle.sq_pool.specs.Trust.{IsLater, Tells, known}
-use Rattle.sq_queue.specs.Faces.{face, size, Together}
 use Rattle.sq_flow.specs.declared.onward.Onward.{Onward}
 use Rattle.sq_flow.specs.Causes.{IsQueueCause}
 use Rattle.sq_flow.specs.Takes.{NotChanged}
-use Rattle.sq_flow.specs.Wiring.{arcs_from, AllOutsFine}
-use Rattle.sq_flow.specs.Sends.{sent_to, is_sent_by, Pushes}
+use Rattle.sq_flow.specs.Wiring.{AllOutsFine}
+use Rattle.sq_flow.specs.Sends.{sent_to, is_sent_by, Pushes, MayGive}
 use Rattle.sq_flow.specs.Shows.{IsShown}
-use Rattle.sq_words.specs.Lists.{contains_number}
 
--- it takes more: no arc of the actor has ended, none comes from an output, and no fault was met
-pub record IsOpen {D : Type 0} (log : D → DiskLog) (s : Onward D) : Type 0 where
-  pub within : s.actor < length s.wires.now.readers.items
-  pub shown : s.wires.now.shown ≤ s.actor → (port : ℕ) → arcs_from s.wires.now s.actor port ≡ []
-  pub there : (port place arc : ℕ) → slice_get (arcs_from s.wires.now s.actor port) place ≡ Some arc
-      → (arc < size s.queues.now) × ((face s.queues.now arc).ended ≡ false)
-  pub joined : (port arc : ℕ) → contains_number (arcs_from s.wires.now s.actor port) arc ≡ true → is_sent_by s.wires.now s.actor arc ≡ true
-  pub together : Together s.queues.now (known (log s.disk.now))
-  pub whole : s.failed.now ≡ None
+-- it takes more
+abbrev pub IsOpen : {D : Type 0} → (D → DiskLog) → Onward D → Type 0
+IsOpen log s = MayGive s.wires.now s.actor s.queues.now (known (log s.disk.now)) s.failed.now
 
 -- it holds the same queues, disk and events, and the same room for a fault
 pub record HoldsSame {D : Type 0} (start s : Onward D) : Type 0 where

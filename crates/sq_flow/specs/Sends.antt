@@ -1,5 +1,5 @@
 -- What pushes do to queues.
-use Rattle.std.specs.Prelude.{◌≡◌, ℕ, zero, suc, ◌==◌, Bool, true, false, List, [], ◌∷◌, ◌++◌, Option, is_some, slice_get}
+use Rattle.std.specs.Prelude.{◌≡◌, ℕ, zero, suc, ◌==◌, ◌≤◌, ◌<◌, Bool, true, false, List, [], ◌∷◌, ◌++◌, length, Option, Some, None, is_some, slice_get}
 use Rattle.sq_item.specs.declared.Item.{Item}
 use Rattle.sq_item.specs.Things.{Thing, spread, spread_all}
 use Rattle.sq_outside.specs.Disks.{Pages}
@@ -7,7 +7,9 @@ use Rattle.sq_left.specs.Heads.{AllFine}
 use Rattle.sq_queue.specs.declared.Queues.{Queues}
 use Rattle.sq_pool.specs.Trust.{Tells}
 use Rattle.sq_queue.specs.Faces.{face, size, frames, items_on, Together}
+use Rattle.sq_flow.specs.declared.errors.RunErr.{RunErr}
 use Rattle.sq_flow.specs.declared.wires.Wires.{Wires}
+use Rattle.sq_words.specs.Lists.{contains_number}
 use Rattle.sq_flow.specs.Wiring.{arcs_from, from_of, times_in}
 
 abbrev pub many : ℕ → List Thing → List Thing
@@ -35,3 +37,20 @@ pub record Pushes (before after : Queues) (was is : Option Pages) (more : ℕ �
   pub apart : (arc : ℕ) → near arc ≡ false → face after arc ≡ face before arc
   pub items : Tells is → (arc : ℕ) → spread_all (items_on after is arc) ≡ spread_all (items_on before was arc) ++ more arc
   pub fine : Tells is → (time : ℕ) → upto time → ((arc : ℕ) → AllFine time (items_on before was arc)) → (arc : ℕ) → AllFine time (items_on after is arc)
+
+-- an actor may give an item on at a port: none of the arcs there has ended, none comes from an output, and no fault was met
+pub record MayPass (wires : Wires) (actor port : ℕ) (queues : Queues) (was : Option Pages) (failed : Option RunErr) : Type 0 where
+  pub within : actor < length wires.readers.items
+  pub shown : wires.shown ≤ actor → arcs_from wires actor port ≡ []
+  pub there : (place arc : ℕ) → slice_get (arcs_from wires actor port) place ≡ Some arc → (arc < size queues) × ((face queues arc).ended ≡ false)
+  pub together : Together queues was
+  pub whole : failed ≡ None
+
+-- an actor may give: none of its arcs has ended, none comes from an output, and no fault was met
+pub record MayGive (wires : Wires) (actor : ℕ) (queues : Queues) (was : Option Pages) (failed : Option RunErr) : Type 0 where
+  pub within : actor < length wires.readers.items
+  pub shown : wires.shown ≤ actor → (port : ℕ) → arcs_from wires actor port ≡ []
+  pub there : (port place arc : ℕ) → slice_get (arcs_from wires actor port) place ≡ Some arc → (arc < size queues) × ((face queues arc).ended ≡ false)
+  pub joined : (port arc : ℕ) → contains_number (arcs_from wires actor port) arc ≡ true → is_sent_by wires actor arc ≡ true
+  pub together : Together queues was
+  pub whole : failed ≡ None

@@ -1,5 +1,5 @@
 -- Seats to which nothing was fed.
-use Rattle.std.specs.Prelude.{◌≡◌, ℕ, Bool, true, false, List, [], Option, None, Vec}
+use Rattle.std.specs.Prelude.{◌≡◌, ℕ, ◌^◌, ◌<◌, ◌≤◌, Bool, true, false, List, [], length, Option, None, Vec, slice_get}
 use Rattle.sq_value.specs.declared.Value.{Value}
 use Rattle.std.specs.List.{AllByRecursion}
 use Rattle.sq_oper.specs.declared.operator.Operator.{Ghosts}
@@ -16,6 +16,7 @@ use Rattle.sq_replay.specs.RecordedTuples.{Recorded}
 use Rattle.sq_flow.specs.declared.wires.Wires.{Wires}
 use Rattle.sq_flow.specs.declared.flow.Flow.{Flow}
 use Rattle.sq_flow.specs.declared.seats.Seat.{Seat}
+use Rattle.sq_flow.specs.Flows.{tuples_to_come, RiseFrom}
 use Rattle.sq_flow.specs.Seats.{FitsArcs}
 
 -- the operator is new and fits its arcs, all that it may decide is its own, and levels of epochs of so many ticks may be read
@@ -32,6 +33,12 @@ pub record IsNewSeat {O : Type 0} (m : Ghosts O) (takes : ℕ → Bool) (fits : 
   pub reads : m.reads seat.op epoch ≡ true
   pub owns : (table : ℕ → ℕ → ℕ) (future : List Entry) → IsFuture (m.takes_marks seat.op) (m.fits seat.op) Start future
       → AllByRecursion own (m.decides seat.op table future)
+
+-- few sources, of each no more than a million tuples, in the order of times
+pub record AreNewSources (sources : List Recorded) : Type 0 where
+  pub coming : (source : ℕ) → RiseFrom 0 (tuples_to_come (slice_get sources source))
+  pub few : length sources < 2 ^ 32
+  pub few_tuples : (source : ℕ) → length (tuples_to_come (slice_get sources source)) ≤ 1000000
 
 -- a flow of these parts that has released nothing, with so many pages in memory at most
 pub record IsNewFlow {O : Type 0} (wires : Wires) (seats : Vec (Seat O) Global) (sources : Vec Recorded Global)

@@ -3,19 +3,20 @@
 --     Proceeds m actor a b     calls of one actor that ended Ok lead from a to b
 --     StepOk, TrainOk          one step, and a train of steps
 --     StepErr m a b e          a step, or a train, that failed with e
-use Rattle.std.specs.Prelude.{◌≡◌, ◌⊎◌, ℕ, ◌≤◌, true, false, List, slice_get}
-use Rattle.sq_outside.specs.Disks.{DiskLog}
+use Rattle.std.specs.Prelude.{◌≡◌, ◌⊎◌, ℕ, ◌≤◌, true, false, List, Option, slice_get}
+use Rattle.sq_outside.specs.Disks.{DiskLog, Pages}
 use Rattle.sq_outside.specs.declared.PageDisk.{Ghosts as DiskGhosts}
 use Rattle.sq_words.specs.Lists.{IsPrefixOf}
 use Rattle.sq_road.specs.Levels.{AgreesWith}
 use Rattle.sq_oper.specs.declared.operator.Operator.{Ghosts}
 use Rattle.sq_oper.specs.declared.outs.Event.{Event}
 use Rattle.sq_pool.specs.Trust.{IsLater, known}
+use Rattle.sq_queue.specs.Faces.{Together}
 use Rattle.sq_flow.specs.declared.flow.Flow.{Flow}
 use Rattle.sq_flow.specs.declared.flow.Did.{Did}
 use Rattle.sq_flow.specs.declared.steps.Progress.{Progress}
 use Rattle.sq_flow.specs.declared.errors.RunErr.{RunErr}
-use Rattle.sq_flow.specs.Flows.{Stepped, ShowsPrefix, NoneStrange, CostsFed, StepCosts, TooMuchOnly, FailsAt, Lowers, measure_of}
+use Rattle.sq_flow.specs.Flows.{Stepped, ShowsPrefix, NoneStrange, CostsFed, StepCosts, TooMuchOnly, FailsAt, IsFlow, Lowers, measure_of, taken_in_all}
 use Rattle.sq_flow.specs.Plans.{PlansPrefix}
 use Rattle.sq_flow.specs.Causes.{IsCauseIn}
 use Rattle.sq_flow.specs.Readiness.{IsReady, TouchesOnly, WaitsOnly, FallsBy, Took, TookBy}
@@ -31,6 +32,11 @@ pub record Stage (O : Type 0) : Type 0 where
 
 abbrev pub stage : {O D : Type 0} → DiskGhosts D → Flow O → D → List Event → ℕ → Stage O
 stage tells flow disk events steps = record { flow = flow; log = tells.log disk; faults = tells.faults disk; events = events; steps = steps }
+
+-- a sound flow, whose queues go with what is known of the pages
+pub record Holds {O : Type 0} (m : Ghosts O) (e : Flow O) (was : Option Pages) : Type 0 where
+  pub flow : IsFlow m e
+  pub together : Together e.queues was
 
 -- what any call keeps: the disk forgets nothing, no count of faults falls, and nothing that was shown is taken back
 pub record Remains {O : Type 0} (before after : Stage O) : Type 0 where
@@ -51,6 +57,15 @@ pub record StepOk {O : Type 0} (m : Ghosts O) (actor : ℕ) (did : Did) (before 
   pub lowers : Lowers did (measure_of before.flow) (measure_of after.flow)
   pub took : TookBy actor did before.flow after.flow
   pub waits : WaitsOnly did ((IsReady before.flow actor → ⊥) × (after.flow ≡ before.flow))
+
+-- a step that touched nothing outside, whatever is known of the pages and was shown before it. It fed nothing
+pub record StepsAlone {O : Type 0} (m : Ghosts O) (actor : ℕ) (did : Did) (flow flow' : Flow O) : Type 0 where
+  pub stepped : (pages : Option Pages) (events : List Event) → Together flow.queues pages → Stepped m pages pages flow flow' events events
+  pub closes : (table : ℕ → ℕ → ℕ) → AgreesWith flow'.levels table → AgreesWith flow.levels table
+  pub touches : TouchesOnly actor flow flow'
+  pub taken : taken_in_all m flow' ≡ taken_in_all m flow
+  pub lowers : Lowers did (measure_of flow) (measure_of flow')
+  pub took : TookBy actor did flow flow'
 
 -- a train of up to so many steps that ended Ok. It ends before only where the actor is finished or isn't ready
 pub record TrainOk {O : Type 0} (m : Ghosts O) (actor train : ℕ) (before after : Stage O) (p : Progress) : Type 0 where

@@ -1,6 +1,6 @@
 //! The engine: a flow with its ready list.
 
-ghost use Rattle.std.specs.Prelude.{◌≡◌, ◌⊎◌, ◌-◌, ◌^◌, ℕ, ◌+◌, ◌≤◌, ◌<◌, true, false, [], ◌∷◌, Option, Some, OnOk, OnErr, IfOk, IfErr, length, map, slice_get};
+ghost use Rattle.std.specs.Prelude.{◌≡◌, ◌⊎◌, ◌-◌, ℕ, ◌+◌, ◌≤◌, ◌<◌, true, false, [], ◌∷◌, Option, Some, OnOk, OnErr, IfOk, IfErr, length, map, slice_get};
 ghost use Rattle.sq_road.specs.Levels.{AgreesWith};
 ghost use Rattle.sq_outside.specs.Disks.{Pages};
 ghost use Rattle.sq_pool.specs.Trust.{IsLater, known};
@@ -12,14 +12,12 @@ ghost use Rattle.sq_flow.specs.Engines.{seat_number};
 
 use crate::errors::RunErr;
 use crate::flow::Flow;
-use crate::plans::no_counts;
 use crate::seats::Seat;
 use crate::steps::Progress;
 use crate::wires::Wires;
 use sq_oper::{Event, Operator};
 use sq_outside::{PageDisk, Steps};
 use sq_plan::Planner;
-use sq_queue::Queues;
 use sq_replay::Stream;
 use sq_road::Levels;
 use sq_sched::{Pick, Ready};
@@ -64,67 +62,16 @@ fn seat_number(ops: u32, actor: u32) -> u32
     if actor == 0 { ops } else { actor - 1 }
 }
 
-impl<O: Operator + Drop> Flow<O> {
-    ghost use Rattle.sq_flow.specs.Flows.{IsFlow, RiseFrom, tuples_to_come};
-    ghost use Rattle.sq_flow.specs.Starts.{IsNewSeat, IsNewFlow};
-    ghost use Rattle.sq_flow.specs.Plans.{IsPlanned, arrivals, last_arrival, plans_left};
-    ghost use Rattle.sq_flow.specs.Seats.{holds_at};
-    ghost use Rattle.sq_flow.specs.Wiring.{net_of, IsOwn, IsShaped};
-
-    /// A flow that has released nothing yet.
-    fn new(
-        alloc: Global,
-        wires: Wires,
-        seats: Vec<Seat<O>>,
-        sources: Vec<Stream>,
-        planner: Planner,
-        levels: Levels,
-        frames: u32,
-    ) -> Result<Flow<O>, AllocError>
-        requires shaped { IsShaped wires (length seats.items) }
-        requires seats { (actor : ℕ) → holds_at (IsNewSeat O.Operator ((net_of wires).takes actor) ((net_of wires).fits actor) (IsOwn wires actor) levels.epoch)
-            (slice_get seats.items actor) }
-        requires coming { (source : ℕ) → RiseFrom 0 (tuples_to_come (slice_get sources.items source)) }
-        requires few { length sources.items < 2 ^ 32 }
-        requires few_tuples { (source : ℕ) → length (tuples_to_come (slice_get sources.items source)) ≤ 1000000 }
-        requires levels { levels.closed ≡ 1 }
-        requires no_levels { levels.rows ≡ [] }
-        requires frames { 2 ≤ frames }
-        ensures flow { IfOk result (λ e. IsFlow O.Operator e) }
-        ensures parts { IfOk result (λ e. IsNewFlow wires seats sources planner levels frames e) }
-        ensures planned { IfOk result (IsPlanned (arrivals levels.epoch (map (λ s. s.items) sources.items))) }
-        ensures plans { IfOk result (λ e. plans_left e
-            ≡ flat_map (shown_after planner (arrivals levels.epoch (map (λ s. s.items) sources.items)))
-            (numbers_to (last_arrival levels.epoch (map (λ s. s.items) sources.items)))) }
-    {
-        let arcs = wires.arcs.len() as u32;
-        let queues = Queues::new(alloc, arcs, frames)?;
-        let counts = no_counts(alloc, &sources)?;
-        Ok(Flow {
-            wires,
-            seats,
-            over: false,
-            queues,
-            sources,
-            clock: 0,
-            planner,
-            levels,
-            counts,
-            taken: 0,
-        })
-    }
-}
-
 impl<O: Operator + Drop> Engine<O> {
     ghost use Rattle.sq_flow.specs.Flows.{IsFlow, HoldsItems, items_in, lines_left, decisions_left};
-    ghost use Rattle.sq_flow.specs.Flows.{fed_at_last, RiseFrom, tuples_to_come, lost_at_last};
+    ghost use Rattle.sq_flow.specs.Flows.{fed_at_last, lost_at_last};
     ghost use Rattle.sq_flow.specs.Flows.{work_at_last, taken_in_all, left_on};
     ghost use Rattle.sq_flow.specs.Plans.{IsPlanned, arrivals, last_arrival, plans_left};
     ghost use Rattle.sq_flow.specs.Stepping.{stage, StepErr};
     ghost use Rattle.sq_flow.specs.EngineSteps.{EngineOk};
     ghost use Rattle.sq_flow.specs.Engines.{IsEngine, HasSeats, Looked, AllDone, newly_ready, readers_of};
     ghost use Rattle.sq_flow.specs.Seats.{taken_at, lost_at, holds_at};
-    ghost use Rattle.sq_flow.specs.Starts.{IsNewSeat, IsNewFlow};
+    ghost use Rattle.sq_flow.specs.Starts.{IsNewSeat, AreNewSources, IsNewFlow};
     ghost use Rattle.sq_flow.specs.Wiring.{net_of, arcs_read, IsOwn, IsShaped};
 
     /// An engine over operators that nothing was fed to, with what each source is to release, in the order of times. It has
@@ -141,11 +88,8 @@ impl<O: Operator + Drop> Engine<O> {
         requires shaped { IsShaped wires (length seats.items) }
         requires seats { (actor : ℕ) → holds_at (IsNewSeat O.Operator ((net_of wires).takes actor) ((net_of wires).fits actor) (IsOwn wires actor) levels.epoch)
             (slice_get seats.items actor) }
-        requires coming { (source : ℕ) → RiseFrom 0 (tuples_to_come (slice_get sources.items source)) }
-        requires few { length sources.items < 2 ^ 32 }
-        requires few_tuples { (source : ℕ) → length (tuples_to_come (slice_get sources.items source)) ≤ 1000000 }
-        requires levels { levels.closed ≡ 1 }
-        requires no_levels { levels.rows ≡ [] }
+        requires sources { AreNewSources sources.items }
+        requires levels { (levels.closed ≡ 1) × (levels.rows ≡ []) }
         requires frames { 2 ≤ frames }
         ensures engine { IfOk result (λ e. IsEngine O.Operator e) }
         ensures flow { IfOk result (λ e. IsNewFlow wires seats sources planner levels frames e.flow) }

@@ -1,11 +1,10 @@
 //! The run of operators, one atomic step at a time.
 
 ghost use Rattle.sq_words.specs.Lists.{IsPrefixOf};
-ghost use Rattle.std.specs.Prelude.{◌≡◌, ◌≢◌, ℕ, ◌+◌, ◌-◌, ◌^◌, ◌/◌, ◌<◌, ◌≤◌, ◌∷◌, ◌==◌, ◌||◌, true, false, List, [], Option, Some, None, OnOk};
+ghost use Rattle.std.specs.Prelude.{◌≡◌, ◌≢◌, ℕ, ◌+◌, ◌-◌, ◌^◌, ◌/◌, ◌<◌, ◌∷◌, ◌==◌, ◌||◌, true, false, [], Option, Some, None, OnOk};
 ghost use Rattle.std.specs.Prelude.{OnErr, IfOk, IfErr, IfSome, length, slice_get, if◌then◌else◌};
 ghost use Rattle.sq_oper.specs.declared.outs.Event.{Event};
 ghost use Rattle.sq_outside.specs.Disks.{Pages};
-ghost use Rattle.sq_road.specs.Levels.{AgreesWith};
 ghost use Rattle.sq_pool.specs.Trust.{IsLater, known};
 ghost use Rattle.sq_queue.specs.Faces.{face, size, frames, items_on, Together};
 ghost use Rattle.sq_flow.specs.Wiring.{from_of};
@@ -140,12 +139,11 @@ fn end_arcs(wires: &Wires, queues: &mut Queues, actor: u32)
 }
 
 impl<O: Operator + Drop> Flow<O> {
-    ghost use Rattle.sq_flow.specs.Flows.{IsFlow, Stepped, taken_in_all, to_release, measure_of};
-    ghost use Rattle.sq_flow.specs.Readiness.{TouchesOnly, Took};
+    ghost use Rattle.sq_flow.specs.Flows.{IsFlow, to_release};
     ghost use Rattle.sq_flow.specs.Wiring.{arcs_read};
     ghost use Rattle.sq_heads.specs.Heads.{NextUpTo};
     ghost use Rattle.sq_flow.specs.Seats.{done_at};
-    ghost use Rattle.sq_flow.specs.Stepping.{stage, StepOk, StepErr};
+    ghost use Rattle.sq_flow.specs.Stepping.{Holds, stage, StepOk, StepErr, StepsAlone};
 
     /// Feeds an operator the first item of an arc.
     #[inline(always)]
@@ -159,8 +157,7 @@ impl<O: Operator + Drop> Flow<O> {
         steps: &mut Steps<L>,
         failed: &mut Option<RunErr>,
     ) -> Result<(), RunErr>
-        requires flow { IsFlow O.Operator self.old }
-        requires together { Together self.old.queues (known (D.log disk.old)) }
+        requires holds { Holds O.Operator self.old (known (D.log disk.old)) }
         requires whole { failed.old ≡ None }
         requires actor_in { actor < length self.old.seats.items }
         requires head { (time : ℕ) × NextUpTo (arcs_read self.old.wires actor)
@@ -207,8 +204,7 @@ impl<O: Operator + Drop> Flow<O> {
         events: &mut Vec<Event>,
         failed: &mut Option<RunErr>,
     ) -> Result<(), RunErr>
-        requires flow { IsFlow O.Operator self.old }
-        requires together { Together self.old.queues (known (D.log disk.old)) }
+        requires holds { Holds O.Operator self.old (known (D.log disk.old)) }
         requires whole { failed.old ≡ None }
         requires actor_in { actor < length self.old.seats.items }
         requires head { NextUpTo (arcs_read self.old.wires actor)
@@ -241,8 +237,7 @@ impl<O: Operator + Drop> Flow<O> {
         events: &mut Vec<Event>,
         failed: &mut Option<RunErr>,
     ) -> Result<(), RunErr>
-        requires flow { IsFlow O.Operator self.old }
-        requires together { Together self.old.queues (known (D.log disk.old)) }
+        requires holds { Holds O.Operator self.old (known (D.log disk.old)) }
         requires whole { failed.old ≡ None }
         requires next { IsNextSource self.old.sources.items source }
         ensures ok { OnOk result ((n : ℕ) → StepOk O.Operator (length self.old.seats.items) Did.Fed (stage D.PageDisk self.old disk.old events.old.items n)
@@ -287,13 +282,7 @@ impl<O: Operator + Drop> Flow<O> {
         requires flow { IsFlow O.Operator self.old }
         requires none { (source : ℕ) → to_release self.old source ≡ [] }
         requires running { self.old.over ≡ false }
-        ensures ok { (pages : Option Pages) (events : List Event) → Together self.old.queues pages
-            → Stepped O.Operator pages pages self.old self.new events events }
-        ensures touches { TouchesOnly (length self.old.seats.items) self.old self.new }
-        ensures taken { taken_in_all O.Operator self.new ≡ taken_in_all O.Operator self.old }
-        ensures closes { (table : ℕ → ℕ → ℕ) → AgreesWith self.new.levels table → AgreesWith self.old.levels table }
-        ensures measure { measure_of self.new + 1 ≤ measure_of self.old }
-        ensures took { Took (length self.old.seats.items) 0 true self.old self.new }
+        ensures { StepsAlone O.Operator (length self.old.seats.items) Did.Finished self.old self.new }
     {
         let replay = self.wires.replay;
         self.over = true;

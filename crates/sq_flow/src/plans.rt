@@ -1,13 +1,12 @@
 //! What is closed before a tuple of a later epoch is released.
 
 ghost use Rattle.sq_words.specs.Lists.{IsPrefixOf};
-ghost use Rattle.std.specs.Prelude.{◌≡◌, ◌==◌, ℕ, ◌+◌, ◌-◌, ◌≤◌, ◌<◌, ◌++◌, ◌^◌, ◌/◌, List, length, replicate, if◌then◌else◌, OnOk, OnErr, IfOk};
-ghost use Rattle.std.specs.List.{flat_map, range_with_len};
-ghost use Rattle.sq_road.specs.Levels.{level_of, AgreesWith};
+ghost use Rattle.std.specs.Prelude.{◌≡◌, ℕ, ◌+◌, ◌-◌, ◌≤◌, ◌<◌, ◌++◌, ◌^◌, ◌/◌, length, replicate, OnOk, OnErr, IfOk};
 ghost use Rattle.sq_plan.specs.Flows.{AreCounts};
-ghost use Rattle.sq_plan.specs.PlanRows.{listed, level_for, shown_after, Ended};
+ghost use Rattle.sq_plan.specs.PlanRows.{listed};
 ghost use Rattle.sq_flow.specs.Events.{lines_of, drops_of, ShowsIn};
 ghost use Rattle.sq_flow.specs.Plans.{plans_of};
+ghost use Rattle.sq_flow.specs.Closes.{ClosesSome, ClosesAll};
 
 use sq_oper::Event;
 use sq_plan::{Planner, Shown, close_epochs};
@@ -67,22 +66,9 @@ pub(crate) fn close_before(
     requires counts { AreCounts counts.old.items }
     requires later { levels.old.closed ≤ next + 1 }
     requires fits { next < 2 ^ 64 - 1 }
-    ensures same { planner.new ≡ planner.old }
-    ensures epoch { levels.new.epoch ≡ levels.old.epoch }
-    ensures closed { OnOk result (levels.new.closed ≡ next + 1) }
-    ensures grows { levels.old.closed ≤ levels.new.closed }
-    ensures keeps { (x w : ℕ) → x < levels.old.closed → level_of levels.new x w ≡ level_of levels.old x w }
-    ensures counts { OnOk result (counts.new.items ≡ (if next + 1 == levels.old.closed then counts.old.items else replicate (length counts.old.items) 0)) }
-    ensures agrees { (all : ℕ → List ℕ) → (levels.old.closed < next + 1 → Ended all (levels.old.closed - 1) next counts.old.items)
-        → AgreesWith levels.old (level_for planner.old all) → AgreesWith levels.new (level_for planner.old all) }
-    ensures plans { OnOk result ((all : ℕ → List ℕ) → (levels.old.closed < next + 1 → Ended all (levels.old.closed - 1) next counts.old.items)
-        → plans_of events.new.items ≡ plans_of events.old.items
-        ++ flat_map (shown_after planner.old all) (range_with_len (levels.old.closed - 1) (next - (levels.old.closed - 1)))) }
+    ensures closes { ClosesSome planner.old planner.new levels.old levels.new counts.old.items next events.old.items events.new.items }
+    ensures ok { OnOk result (ClosesAll planner.old levels.old levels.new counts.old.items counts.new.items next events.old.items events.new.items) }
     ensures err { OnErr result (plans_of events.new.items ≡ plans_of events.old.items) }
-    ensures lines { (o : ℕ) → lines_of o events.new.items ≡ lines_of o events.old.items }
-    ensures drops { (w : ℕ) → drops_of w events.new.items ≡ drops_of w events.old.items }
-    ensures within { (outputs drops : ℕ) → ShowsIn outputs drops events.old.items events.new.items }
-    ensures stay { IsPrefixOf events.old.items events.new.items }
 {
     if next + 1 == levels.closed() {
         return Ok(());

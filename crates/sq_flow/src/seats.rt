@@ -1,17 +1,10 @@
 //! Operators in their seats.
 
-ghost use Rattle.std.specs.Prelude.{◌≡◌, ℕ, ◌+◌, ◌-◌, ◌^◌, ◌/◌, ◌<◌, ◌≤◌, true, false, [], Some, None, is_some, OnOk, OnErr, IfErr, length, slice_get, if◌then◌else◌};
-ghost use Rattle.sq_item.specs.SoundItems.{IsSoundItem};
-ghost use Rattle.sq_oper.specs.Entries.{entries};
-ghost use Rattle.sq_oper.specs.Order.{IsFuture};
-ghost use Rattle.sq_pool.specs.Trust.{IsLater, Tells, known};
-ghost use Rattle.sq_queue.specs.Faces.{face, size, Together};
-ghost use Rattle.sq_flow.specs.Causes.{IsQueueCause};
-ghost use Rattle.sq_flow.specs.Takes.{NotChanged};
-ghost use Rattle.sq_flow.specs.Wiring.{arcs_from};
-ghost use Rattle.sq_flow.specs.Sends.{is_sent_by};
-ghost use Rattle.sq_flow.specs.Feeds.{FeedsInto, FeedsPart, EndsInto, EndsPart};
-ghost use Rattle.sq_words.specs.Lists.{contains_number};
+ghost use Rattle.std.specs.Prelude.{◌≡◌, ◌+◌, true, None, is_some, OnOk, OnErr, IfErr, ◌≤◌, if◌then◌else◌};
+ghost use Rattle.sq_pool.specs.Trust.{IsLater, known};
+ghost use Rattle.sq_flow.specs.Causes.{FailsOver};
+ghost use Rattle.sq_flow.specs.Sends.{MayGive};
+ghost use Rattle.sq_flow.specs.Feeds.{MayFeed, FeedsInto, FeedsPart, EndsInto, EndsPart};
 
 use crate::errors::RunErr;
 use crate::fed_items::FedItems;
@@ -48,25 +41,13 @@ pub(crate) fn feed_into<O: Operator, D: PageDisk, L: Ledger>(
     steps: &mut Steps<L>,
     failed: &mut Option<RunErr>,
 ) -> Result<(), RunErr>
-    requires is_valid { O.valid seat.old.op × (O.running seat.old.op ≡ true) }
-    requires may_come { IsFuture (O.takes_marks seat.old.op) (O.fits seat.old.op) (O.place seat.old.op) (entries port item) }
-    requires is_sound { IsSoundItem item }
-    requires has_epoch { O.reads seat.old.op levels.now.epoch ≡ true }
-    requires has_level { item.time / levels.now.epoch < levels.now.closed }
-    requires has_room { (O.taken seat.old.op < 2 ^ 62 - 1) × (seat.old.tally.taken < 2 ^ 62 - 1) }
-    requires within { actor < length wires.now.readers.items }
-    requires shown { wires.now.shown ≤ actor → (port : ℕ) → arcs_from wires.now actor port ≡ [] }
-    requires there { (port place arc : ℕ) → slice_get (arcs_from wires.now actor port) place ≡ Some arc
-        → (arc < size queues.old) × ((face queues.old arc).ended ≡ false) }
-    requires joined { (port arc : ℕ) → contains_number (arcs_from wires.now actor port) arc ≡ true → is_sent_by wires.now actor arc ≡ true }
-    requires together { Together queues.old (known (D.log disk.old)) }
-    requires whole { failed.old ≡ None }
+    requires fits { MayFeed O.Operator levels.now port item seat.old }
+    requires gives { MayGive wires.now actor queues.old (known (D.log disk.old)) failed.old }
     ensures fed { OnOk result (FeedsInto O.Operator levels.now port item wires.now actor seat.old seat.new
         queues.old queues.new (known (D.log disk.old)) (known (D.log disk.new)) events.old.items events.new.items) }
     ensures whole { OnOk result (failed.new ≡ None) }
     ensures part { OnErr result (FeedsPart O.Operator levels.now port item wires.now actor seat.old events.old.items events.new.items) }
-    ensures cause { IfErr result (IsQueueCause queues.new (D.log disk.old) (D.log disk.new) (D.faults disk.old) (D.faults disk.new)) }
-    ensures honest { IfErr result (λ e. Tells (known (D.log disk.new)) → NotChanged (D.log disk.old).honest e) }
+    ensures fails { IfErr result (FailsOver queues.new (D.log disk.old) (D.log disk.new) (D.faults disk.old) (D.faults disk.new)) }
     ensures faults { D.faults disk.old ≤ D.faults disk.new }
     ensures later { IsLater (D.log disk.old) (D.log disk.new) }
     ensures cost { OnOk result (steps.new ≡ steps.old + (if is_some item.body then 1 else 0)) }
@@ -115,19 +96,12 @@ pub(crate) fn finish_into<O: Operator, D: PageDisk>(
     failed: &mut Option<RunErr>,
 ) -> Result<(), RunErr>
     requires is_valid { O.valid seat.old.op × (O.running seat.old.op ≡ true) }
-    requires within { actor < length wires.now.readers.items }
-    requires shown { wires.now.shown ≤ actor → (port : ℕ) → arcs_from wires.now actor port ≡ [] }
-    requires there { (port place arc : ℕ) → slice_get (arcs_from wires.now actor port) place ≡ Some arc
-        → (arc < size queues.old) × ((face queues.old arc).ended ≡ false) }
-    requires joined { (port arc : ℕ) → contains_number (arcs_from wires.now actor port) arc ≡ true → is_sent_by wires.now actor arc ≡ true }
-    requires together { Together queues.old (known (D.log disk.old)) }
-    requires whole { failed.old ≡ None }
+    requires gives { MayGive wires.now actor queues.old (known (D.log disk.old)) failed.old }
     ensures finished { OnOk result (EndsInto O.Operator wires.now actor seat.old seat.new
         queues.old queues.new (known (D.log disk.old)) (known (D.log disk.new)) events.old.items events.new.items) }
     ensures whole { OnOk result (failed.new ≡ None) }
     ensures part { OnErr result (EndsPart O.Operator wires.now actor seat.old events.old.items events.new.items) }
-    ensures cause { IfErr result (IsQueueCause queues.new (D.log disk.old) (D.log disk.new) (D.faults disk.old) (D.faults disk.new)) }
-    ensures honest { IfErr result (λ e. Tells (known (D.log disk.new)) → NotChanged (D.log disk.old).honest e) }
+    ensures fails { IfErr result (FailsOver queues.new (D.log disk.old) (D.log disk.new) (D.faults disk.old) (D.faults disk.new)) }
     ensures faults { D.faults disk.old ≤ D.faults disk.new }
     ensures later { IsLater (D.log disk.old) (D.log disk.new) }
 {

@@ -5,12 +5,11 @@ ghost use Rattle.sq_words.specs.Lists.{IsPrefixOf, contains_number};
 ghost use Rattle.sq_item.specs.SoundItems.{IsSoundItem};
 ghost use Rattle.sq_item.specs.Things.{spread};
 ghost use Rattle.sq_oper.specs.Outflow.{given};
-ghost use Rattle.sq_pool.specs.Trust.{IsLater, Tells, known};
+ghost use Rattle.sq_pool.specs.Trust.{IsLater, known};
 ghost use Rattle.sq_queue.specs.Faces.{face, size, Together};
-ghost use Rattle.sq_flow.specs.Causes.{of_queue, fault_or, IsQueueCause};
-ghost use Rattle.sq_flow.specs.Takes.{NotChanged};
+ghost use Rattle.sq_flow.specs.Causes.{of_queue, fault_or, FailsOver};
 ghost use Rattle.sq_flow.specs.Wiring.{arcs_from, times_in};
-ghost use Rattle.sq_flow.specs.Sends.{many, Pushes};
+ghost use Rattle.sq_flow.specs.Sends.{many, Pushes, MayPass};
 ghost use Rattle.sq_flow.specs.Events.{lines_of, drops_of, of_drop, ShowsIn};
 ghost use Rattle.sq_flow.specs.Shows.{IsShown};
 ghost use Rattle.sq_flow.specs.Plans.{plans_of};
@@ -38,8 +37,7 @@ fn send_item<D: PageDisk>(
     requires together { Together queues.old (known (D.log disk.old)) }
     ensures sent { OnOk result (Pushes queues.old queues.new (known (D.log disk.old)) (known (D.log disk.new))
         (λ arc. many (times_in arc arcs.now) (spread item)) (λ time. item.time ≤ time) (λ arc. contains_number arcs.now arc)) }
-    ensures cause { IfErr result (λ e. IsQueueCause queues.new (D.log disk.old) (D.log disk.new) (D.faults disk.old) (D.faults disk.new) (of_queue e)) }
-    ensures honest { IfErr result (λ e. Tells (known (D.log disk.new)) → NotChanged (D.log disk.old).honest (of_queue e)) }
+    ensures fails { IfErr result (λ e. FailsOver queues.new (D.log disk.old) (D.log disk.new) (D.faults disk.old) (D.faults disk.new) (of_queue e)) }
     ensures faults { D.faults disk.old ≤ D.faults disk.new }
     ensures later { IsLater (D.log disk.old) (D.log disk.new) }
 {
@@ -71,8 +69,7 @@ fn send_any<D: PageDisk>(
         (λ arc. many (times_in arc arcs.now) (spread item)) (λ time. item.time ≤ time) (λ arc. contains_number arcs.now arc)) }
     ensures whole { OnOk result (failed.new ≡ None) }
     ensures kept { OnErr result (is_some failed.new ≡ true) }
-    ensures cause { OnErr result (IsQueueCause queues.new (D.log disk.old) (D.log disk.new) (D.faults disk.old) (D.faults disk.new) (fault_or failed.new)) }
-    ensures honest { OnErr result (Tells (known (D.log disk.new)) → NotChanged (D.log disk.old).honest (fault_or failed.new)) }
+    ensures fails { OnErr result (FailsOver queues.new (D.log disk.old) (D.log disk.new) (D.faults disk.old) (D.faults disk.new) (fault_or failed.new)) }
     ensures faults { D.faults disk.old ≤ D.faults disk.new }
     ensures later { IsLater (D.log disk.old) (D.log disk.new) }
 {
@@ -107,8 +104,7 @@ pub(crate) fn send_one<D: PageDisk>(
         (λ arc. contains_number (arcs_from wires.now actor port) arc)) }
     ensures whole { OnOk result (failed.new ≡ None) }
     ensures unsent { OnErr result (failed.new ≡ None → Pushes queues.old queues.new (known (D.log disk.old)) (known (D.log disk.new)) (λ arc. []) (λ time. ⊤) (λ arc. false)) }
-    ensures cause { OnErr result (IsQueueCause queues.new (D.log disk.old) (D.log disk.new) (D.faults disk.old) (D.faults disk.new) (fault_or failed.new)) }
-    ensures honest { OnErr result (Tells (known (D.log disk.new)) → NotChanged (D.log disk.old).honest (fault_or failed.new)) }
+    ensures fails { OnErr result (FailsOver queues.new (D.log disk.old) (D.log disk.new) (D.faults disk.old) (D.faults disk.new) (fault_or failed.new)) }
     ensures faults { D.faults disk.old ≤ D.faults disk.new }
     ensures later { IsLater (D.log disk.old) (D.log disk.new) }
 {
@@ -183,13 +179,8 @@ pub(crate) fn pass_on<D: PageDisk>(
     events: &mut Vec<Event>,
     failed: &mut Option<RunErr>,
 ) -> Result<(), AllocError>
-    requires within { actor < length wires.now.readers.items }
-    requires shown { wires.now.shown ≤ actor → arcs_from wires.now actor port ≡ [] }
-    requires there { (place arc : ℕ) → slice_get (arcs_from wires.now actor port) place ≡ Some arc
-        → (arc < size queues.old) × ((face queues.old arc).ended ≡ false) }
+    requires gives { MayPass wires.now actor port queues.old (known (D.log disk.old)) failed.old }
     requires sound { IsSoundItem item }
-    requires together { Together queues.old (known (D.log disk.old)) }
-    requires whole { failed.old ≡ None }
     ensures sent { OnOk result (Pushes queues.old queues.new (known (D.log disk.old)) (known (D.log disk.new))
         (λ arc. many (times_in arc (arcs_from wires.now actor port)) (spread item)) (λ time. item.time ≤ time)
         (λ arc. contains_number (arcs_from wires.now actor port) arc)) }
@@ -197,8 +188,7 @@ pub(crate) fn pass_on<D: PageDisk>(
     ensures whole { OnOk result (failed.new ≡ None) }
     ensures unsent { OnErr result (failed.new ≡ None → Pushes queues.old queues.new (known (D.log disk.old)) (known (D.log disk.new)) (λ arc. []) (λ time. ⊤) (λ arc. false)) }
     ensures err { OnErr result (events.new.items ≡ events.old.items) }
-    ensures cause { OnErr result (IsQueueCause queues.new (D.log disk.old) (D.log disk.new) (D.faults disk.old) (D.faults disk.new) (fault_or failed.new)) }
-    ensures honest { OnErr result (Tells (known (D.log disk.new)) → NotChanged (D.log disk.old).honest (fault_or failed.new)) }
+    ensures fails { OnErr result (FailsOver queues.new (D.log disk.old) (D.log disk.new) (D.faults disk.old) (D.faults disk.new) (fault_or failed.new)) }
     ensures faults { D.faults disk.old ≤ D.faults disk.new }
     ensures later { IsLater (D.log disk.old) (D.log disk.new) }
 {

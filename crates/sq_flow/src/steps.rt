@@ -24,7 +24,7 @@ pub struct Progress {
 impl<O: Operator + Drop> Flow<O> {
     ghost use Rattle.sq_flow.specs.Flows.{IsFlow};
     ghost use Rattle.sq_flow.specs.Seats.{done_at};
-    ghost use Rattle.sq_flow.specs.Stepping.{stage, StepOk, StepErr, TrainOk};
+    ghost use Rattle.sq_flow.specs.Stepping.{Holds, stage, StepOk, StepErr, TrainOk};
 
     /// An actor is finished.
     pub(crate) fn is_done(&self, actor: u32) -> bool
@@ -45,8 +45,7 @@ impl<O: Operator + Drop> Flow<O> {
         events: &mut Vec<Event>,
         failed: &mut Option<RunErr>,
     ) -> Result<Did, RunErr>
-        requires flow { IsFlow O.Operator self.old }
-        requires together { Together self.old.queues (known (D.log disk.old)) }
+        requires holds { Holds O.Operator self.old (known (D.log disk.old)) }
         requires whole { failed.old ≡ None }
         requires running { self.old.over ≡ false }
         ensures ok { IfOk result (λ did. (n : ℕ) → StepOk O.Operator (length self.old.seats.items) did
@@ -77,8 +76,7 @@ impl<O: Operator + Drop> Flow<O> {
         steps: &mut Steps<L>,
         failed: &mut Option<RunErr>,
     ) -> Result<Did, RunErr>
-        requires flow { IsFlow O.Operator self.old }
-        requires together { Together self.old.queues (known (D.log disk.old)) }
+        requires holds { Holds O.Operator self.old (known (D.log disk.old)) }
         requires whole { failed.old ≡ None }
         requires actor_in { actor < length self.old.seats.items }
         requires running { done_at self.old.over (slice_get self.old.seats.items actor) ≡ false }
@@ -111,8 +109,7 @@ impl<O: Operator + Drop> Flow<O> {
         steps: &mut Steps<L>,
         failed: &mut Option<RunErr>,
     ) -> Result<Did, RunErr>
-        requires flow { IsFlow O.Operator self.old }
-        requires together { Together self.old.queues (known (D.log disk.old)) }
+        requires holds { Holds O.Operator self.old (known (D.log disk.old)) }
         requires whole { failed.old ≡ None }
         requires actor_in { actor ≤ length self.old.seats.items }
         ensures ok { IfOk result (λ did. StepOk O.Operator actor did (stage D.PageDisk self.old disk.old events.old.items steps.old)

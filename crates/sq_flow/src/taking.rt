@@ -1,15 +1,13 @@
 //! Taking an item from an arc, and the tests that it passes.
 
-ghost use Rattle.std.specs.Prelude.{◌≡◌, ◌≢◌, ℕ, ◌+◌, ◌-◌, ◌^◌, ◌<◌, ◌≤◌, ◌∷◌, ◌⊎◌, true, is_some, length, List, Option, IfOk, IfErr, OnOk, OnErr};
+ghost use Rattle.std.specs.Prelude.{◌≡◌, ◌≢◌, ℕ, ◌+◌, ◌-◌, ◌^◌, ◌<◌, ◌≤◌, true, is_some, length, IfOk, IfErr, OnErr};
 ghost use Rattle.sq_value.specs.Values.{is_of_kind, kinds_fit};
-ghost use Rattle.sq_item.specs.declared.Item.{Item};
 ghost use Rattle.sq_item.specs.SoundItems.{IsSoundItem};
 ghost use Rattle.sq_item.specs.Things.{spread};
-ghost use Rattle.sq_pool.specs.Trust.{IsLater, Tells, known};
-ghost use Rattle.sq_paged.specs.Fronts.{IsPopped};
-ghost use Rattle.sq_queue.specs.Faces.{face, size, frames, items_on, IsFirst, Together};
-ghost use Rattle.sq_flow.specs.Causes.{HasTaken, IsQueueCause};
-ghost use Rattle.sq_flow.specs.Takes.{MayBeFed, may_stand, mark_fits, kinds_take, NotChanged};
+ghost use Rattle.sq_pool.specs.Trust.{IsLater, known};
+ghost use Rattle.sq_queue.specs.Faces.{face, size, Together};
+ghost use Rattle.sq_flow.specs.Causes.{TakesItem, TakesNone};
+ghost use Rattle.sq_flow.specs.Takes.{MayBeFed, may_stand, mark_fits, kinds_take};
 
 use crate::errors::RunErr;
 use crate::wires::Arc;
@@ -129,28 +127,12 @@ pub(crate) fn take_item<D: PageDisk>(
     requires there { arc < size queues.old }
     requires some { is_some (face queues.old arc).first ≡ true }
     requires together { Together queues.old (known (D.log disk.old)) }
-    ensures sound { IfOk result IsSoundItem }
-    ensures may_be_fed { IfOk result (λ item. MayBeFed at.now port place clock item) }
-    ensures ended { OnOk result ((other : ℕ) → (face queues.new other).ended ≡ (face queues.old other).ended) }
+    ensures ok { IfOk result (TakesItem (D.log disk.old) (D.log disk.new) queues.old queues.new at.now arc port place clock) }
+    ensures err { IfErr result (TakesNone (D.log disk.old) (D.log disk.new) (D.faults disk.old) (D.faults disk.new) queues.old queues.new at.now arc port place clock) }
     ensures faces { (other : ℕ) → other ≢ arc → face queues.new other ≡ face queues.old other }
     ensures size { size queues.new ≡ size queues.old }
-    ensures items { IfOk result (λ item. Tells (known (D.log disk.new))
-        → items_on queues.old (known (D.log disk.old)) arc ≡ item ∷ items_on queues.new (known (D.log disk.new)) arc) }
-    ensures first { IfOk result (λ item. IsFirst queues.old (D.log disk.old) (D.log disk.new) arc item) }
-    ensures others { OnOk result (Tells (known (D.log disk.new)) → (other : ℕ) → other ≢ arc → items_on queues.new (known (D.log disk.new)) other
-        ≡ items_on queues.old (known (D.log disk.old)) other) }
-    ensures together { OnOk result (Together queues.new (known (D.log disk.new))) }
-    ensures later { IsLater (D.log disk.old) (D.log disk.new) }
-    ensures strange { IfErr result (λ e. Tells (known (D.log disk.new))
-        → ((item : Item) (more : List Item) → items_on queues.old (known (D.log disk.old)) arc ≡ item ∷ more → MayBeFed at.now port place clock item)
-        → NotChanged (D.log disk.old).honest e) }
-    ensures memory { IfErr result (λ e. e ≢ RunErr.TooMuch) }
-    ensures cause { IfErr result (λ e. IsQueueCause queues.new (D.log disk.old) (D.log disk.new) (D.faults disk.old) (D.faults disk.new) e
-        ⊎ ((item : Item) × (e ≡ RunErr.Strange arc item)
-        × HasTaken (D.log disk.old) (D.log disk.new) queues.old queues.new arc item × ¬ (MayBeFed at.now port place clock item))) }
     ensures faults { D.faults disk.old ≤ D.faults disk.new }
-    ensures popped { OnOk result (IsPopped (face queues.old arc) (face queues.new arc)) }
-    ensures frames { OnOk result (frames queues.new ≡ frames queues.old) }
+    ensures later { IsLater (D.log disk.old) (D.log disk.new) }
 {
     let item = queues.pop(disk, arc)?;
     if !may_be_fed(at, port, place, clock, &item) {

@@ -25,11 +25,16 @@ new-requires-clause-seats c =
     c.args.seed c.in_ok-seats.seats.items c.in_ok-seats.ensures.seated c.in_ok-seats.ensures.count c.arcs_may_come.ensures.marks c.arcs_may_come.ensures.tuples
     c.in_ok-wires.ensures.sheds c.in_ok-wires.ensures.shown c.new-levels.result.epoch (sym (ap (λ l. l.epoch) c.new-levels.ensures))
 
-pub new-requires-clause-coming : goal.new-requires-clause-coming
-new-requires-clause-coming c = rising c.args.sources.items c.requires.streams c.requires.tuples
+pub new-requires-clause-sources : goal.new-requires-clause-sources
+new-requires-clause-sources c =
+    record {
+      coming = rising c.args.sources.items c.requires.streams c.requires.tuples;
+      few = c.requires.few;
+      few_tuples = few-queued c.args.sources.items c.requires.few_tuples;
+    }
 
-pub new-requires-clause-few_tuples : goal.new-requires-clause-few_tuples
-new-requires-clause-few_tuples c = few-queued c.args.sources.items c.requires.few_tuples
+pub new-requires-clause-levels : goal.new-requires-clause-levels
+new-requires-clause-levels c = (ap (λ l. l.closed) c.new-levels.ensures, ap (λ l. l.rows) c.new-levels.ensures)
 
 pub returns-clause-boxes : goal.returns-clause-boxes
 returns-clause-boxes c = IfOk-weaker c.new.result _ _ (λ e h. ap (λ w. w.sheds) h.wires_are ∙ c.in_ok-wires.ensures.sheds) c.new.ensures.flow

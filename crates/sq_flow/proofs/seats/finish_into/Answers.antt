@@ -8,14 +8,11 @@ use Rattle.sq_flow.proofs.OnwardLemmas.{came-open, ends-into, was-shown, of-faul
 use Rattle.sq_flow.proofs.seats.finish_into.Goals as goal
 
 pub finish-done-requires-clause-is_ready : goal.finish-done-requires-clause-is_ready
-finish-done-requires-clause-is_ready g c =
-    record { within = c.requires.within; shown = c.requires.shown; there = c.requires.there; joined = c.requires.joined; together = c.requires.together; whole = c.requires.whole }
+finish-done-requires-clause-is_ready g c = c.requires.gives
 
 pub returns-in-Ok-clause-finished : goal.returns-in-Ok-clause-finished
 returns-in-Ok-clause-finished g c =
-    let came =
-    came-open g.D.PageDisk.log g.D.PageDisk.faults _ _ c.requires.within c.requires.shown c.requires.there c.requires.joined c.requires.together c.requires.whole c.new.ensures
-    c.finish-done.ensures.came in
+    let came = came-open g.D.PageDisk.log g.D.PageDisk.faults _ _ c.requires.gives c.new.ensures c.finish-done.ensures.came in
     let queues = came.holds.queues in
     let disk = came.holds.disk in
     let events = came.holds.events in
@@ -46,9 +43,7 @@ returns-in-Ok-clause-finished g c =
 
 pub returns-in-Err-clause-part : goal.returns-in-Err-clause-part
 returns-in-Err-clause-part g c =
-    let came =
-    came-open g.D.PageDisk.log g.D.PageDisk.faults _ _ c.requires.within c.requires.shown c.requires.there c.requires.joined c.requires.together c.requires.whole c.new.ensures
-    c.finish-done.ensures.came in
+    let came = came-open g.D.PageDisk.log g.D.PageDisk.faults _ _ c.requires.gives c.new.ensures c.finish-done.ensures.came in
     let events = came.holds.events in
     let told = c.in-Err.ensures in
     let none = c.new.ensures in
@@ -63,66 +58,45 @@ returns-in-Err-clause-part g c =
 
 pub returns-in-Ok-clause-faults : goal.returns-in-Ok-clause-faults
 returns-in-Ok-clause-faults g c =
-    let came =
-    came-open g.D.PageDisk.log g.D.PageDisk.faults _ _ c.requires.within c.requires.shown c.requires.there c.requires.joined c.requires.together c.requires.whole c.new.ensures
-    c.finish-done.ensures.came in
+    let came = came-open g.D.PageDisk.log g.D.PageDisk.faults _ _ c.requires.gives c.new.ensures c.finish-done.ensures.came in
     let disk = came.holds.disk in
     let rises = came.rises in search rules
 
 pub returns-in-Ok-clause-later : goal.returns-in-Ok-clause-later
 returns-in-Ok-clause-later g c =
-    let came =
-    came-open g.D.PageDisk.log g.D.PageDisk.faults _ _ c.requires.within c.requires.shown c.requires.there c.requires.joined c.requires.together c.requires.whole c.new.ensures
-    c.finish-done.ensures.came in
+    let came = came-open g.D.PageDisk.log g.D.PageDisk.faults _ _ c.requires.gives c.new.ensures c.finish-done.ensures.came in
     let disk = came.holds.disk in
     let later = came.later in search rules
 
 pub returns-in-Err-clause-faults : goal.returns-in-Err-clause-faults
 returns-in-Err-clause-faults g c =
-    let came =
-    came-open g.D.PageDisk.log g.D.PageDisk.faults _ _ c.requires.within c.requires.shown c.requires.there c.requires.joined c.requires.together c.requires.whole c.new.ensures
-    c.finish-done.ensures.came in
+    let came = came-open g.D.PageDisk.log g.D.PageDisk.faults _ _ c.requires.gives c.new.ensures c.finish-done.ensures.came in
     let disk = came.holds.disk in
     let rises = came.rises in search rules
 
 pub returns-in-Err-clause-later : goal.returns-in-Err-clause-later
 returns-in-Err-clause-later g c =
-    let came =
-    came-open g.D.PageDisk.log g.D.PageDisk.faults _ _ c.requires.within c.requires.shown c.requires.there c.requires.joined c.requires.together c.requires.whole c.new.ensures
-    c.finish-done.ensures.came in
+    let came = came-open g.D.PageDisk.log g.D.PageDisk.faults _ _ c.requires.gives c.new.ensures c.finish-done.ensures.came in
     let disk = came.holds.disk in
     let later = came.later in search rules
 
-pub returns-in-Err-clause-cause : goal.returns-in-Err-clause-cause
-returns-in-Err-clause-cause g c =
-    let came =
-    came-open g.D.PageDisk.log g.D.PageDisk.faults _ _ c.requires.within c.requires.shown c.requires.there c.requires.joined c.requires.together c.requires.whole c.new.ensures
-    c.finish-done.ensures.came in
+pub returns-in-Err-clause-fails : goal.returns-in-Err-clause-fails
+returns-in-Err-clause-fails g c =
+    let came = came-open g.D.PageDisk.log g.D.PageDisk.faults _ _ c.requires.gives c.new.ensures c.finish-done.ensures.came in
     let queues = came.holds.queues in
     let disk = came.holds.disk in
     let failed = came.holds.failed in
-    let told =
+    let cause =
     of-fault c.finish-done.new.out.failed.now
     (IsQueueCause c.finish-done.new.out.queues.now (g.D.PageDisk.log c.args.disk.now) (g.D.PageDisk.log c.finish-done.new.out.disk.now) (g.D.PageDisk.faults c.args.disk.now) (g.D.PageDisk.faults c.finish-done.new.out.disk.now))
     came.cause tt in
-    search rules
-
-pub returns-in-Err-clause-honest : goal.returns-in-Err-clause-honest
-returns-in-Err-clause-honest g c =
-    let came =
-    came-open g.D.PageDisk.log g.D.PageDisk.faults _ _ c.requires.within c.requires.shown c.requires.there c.requires.joined c.requires.together c.requires.whole c.new.ensures
-    c.finish-done.ensures.came in
-    let disk = came.holds.disk in
-    let failed = came.holds.failed in
-    let told =
+    let honest =
     of-fault c.finish-done.new.out.failed.now (λ e. Tells (known (g.D.PageDisk.log c.finish-done.new.out.disk.now)) → NotChanged (g.D.PageDisk.log c.args.disk.now).honest e) came.honest (λ known. tt)
     in
-    search rules
+    record { cause = search rules; honest = search rules }
 
 pub returns-in-Ok-clause-whole : goal.returns-in-Ok-clause-whole
 returns-in-Ok-clause-whole g c =
-    let came =
-    came-open g.D.PageDisk.log g.D.PageDisk.faults _ _ c.requires.within c.requires.shown c.requires.there c.requires.joined c.requires.together c.requires.whole c.new.ensures
-    c.finish-done.ensures.came in
+    let came = came-open g.D.PageDisk.log g.D.PageDisk.faults _ _ c.requires.gives c.new.ensures c.finish-done.ensures.came in
     let failed = came.holds.failed in
     let whole = c.in-Ok.ensures.stays_ready.whole in search rules

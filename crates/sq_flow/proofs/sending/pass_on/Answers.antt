@@ -11,7 +11,7 @@ use Rattle.sq_words.proofs.Results.{OnErr_from, OnOk_weaker}
 pub returns-then-wires-actor-clause-sent : goal.returns-then-wires-actor-clause-sent
 returns-then-wires-actor-clause-sent g c =
     OnOk_weaker c.show_one.result (λ shown.
-    pushes-none c.args.queues.now (known (g.D.PageDisk.log c.args.disk.now)) _ _ _ c.requires.together (λ arc. ap (λ l. many (times_in arc l) (spread c.args.item)) (c.requires.shown c.if-wires-actor.true))) c.show_one.ensures.shown
+    pushes-none c.args.queues.now (known (g.D.PageDisk.log c.args.disk.now)) _ _ _ c.requires.gives.together (λ arc. ap (λ l. many (times_in arc l) (spread c.args.item)) (c.requires.gives.shown c.if-wires-actor.true))) c.show_one.ensures.shown
 
 pub returns-then-wires-actor-clause-shown : goal.returns-then-wires-actor-clause-shown
 returns-then-wires-actor-clause-shown g c =
@@ -20,17 +20,26 @@ returns-then-wires-actor-clause-shown g c =
     shown-one c.args.wires.now c.args.actor (c.args.port, c.args.item) c.args.events.now.items _ c.if-wires-actor.true shown told.below told.drops told.plans told.stay) told.shown
 
 pub returns-then-wires-actor-clause-whole : goal.returns-then-wires-actor-clause-whole
-returns-then-wires-actor-clause-whole g c = OnOk_weaker c.show_one.result (λ shown. c.requires.whole) c.show_one.ensures.shown
+returns-then-wires-actor-clause-whole g c = OnOk_weaker c.show_one.result (λ shown. c.requires.gives.whole) c.show_one.ensures.shown
 
 pub returns-then-wires-actor-clause-unsent : goal.returns-then-wires-actor-clause-unsent
 returns-then-wires-actor-clause-unsent g c =
-    OnErr_from c.show_one.result (λ whole. pushes-none c.args.queues.now (known (g.D.PageDisk.log c.args.disk.now)) _ _ _ c.requires.together (λ arc. refl))
+    OnErr_from c.show_one.result (λ whole. pushes-none c.args.queues.now (known (g.D.PageDisk.log c.args.disk.now)) _ _ _ c.requires.gives.together (λ arc. refl))
 
-pub returns-then-wires-actor-clause-cause : goal.returns-then-wires-actor-clause-cause
-returns-then-wires-actor-clause-cause g c = OnErr_from c.show_one.result (rw c.requires.whole tt)
+pub returns-then-wires-actor-clause-fails : goal.returns-then-wires-actor-clause-fails
+returns-then-wires-actor-clause-fails g c = OnErr_from c.show_one.result (rw c.requires.gives.whole (record { cause = tt; honest = λ told. tt }))
 
-pub returns-then-wires-actor-clause-honest : goal.returns-then-wires-actor-clause-honest
-returns-then-wires-actor-clause-honest g c = OnErr_from c.show_one.result (rw c.requires.whole (λ told. tt))
+pub send_one-requires-clause-within : goal.send_one-requires-clause-within
+send_one-requires-clause-within g c = c.requires.gives.within
+
+pub send_one-requires-clause-there : goal.send_one-requires-clause-there
+send_one-requires-clause-there g c = c.requires.gives.there
+
+pub send_one-requires-clause-together : goal.send_one-requires-clause-together
+send_one-requires-clause-together g c = c.requires.gives.together
+
+pub send_one-requires-clause-whole : goal.send_one-requires-clause-whole
+send_one-requires-clause-whole g c = c.requires.gives.whole
 
 pub returns-clause-shown : goal.returns-clause-shown
 returns-clause-shown g c =

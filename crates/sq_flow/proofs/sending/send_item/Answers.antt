@@ -62,27 +62,25 @@ returns-clause-sent g c =
     ∙ many-next (take c.loop-arc.arc-index c.in-Some.others.now) c.in-Some.last.now (spread c.args.item) arc)
     (λ arc away. (away, not-in arcs c.in-Some.last.now arc (contains-get arcs _ c.in-Some.last.now here) away))
 
-pub returns-in_err-push-clause-cause : goal.returns-in_err-push-clause-cause
-returns-in_err-push-clause-cause g c =
+pub returns-in_err-push-clause-fails : goal.returns-in_err-push-clause-fails
+returns-in_err-push-clause-fails g c =
     let p = err_from_is_err_and c.from_residual.result c.from_residual.ensures.1 in
+    let told = c.in_err-push.ensures in
     rw (p.1, p.2)
-    (queue-cause-since _ _ _ _ _ _ _ _ c.loop-arc.invariant.later c.loop-arc.invariant.faults (cause-of c.loop-arc.queues _ _ _ _ _ _ _ c.in_err-push.ensures.disk c.in_err-push.ensures.cause))
+    (record {
+      cause = queue-cause-since _ _ _ _ _ _ _ _ c.loop-arc.invariant.later c.loop-arc.invariant.faults (cause-of c.loop-arc.queues _ _ _ _ _ _ _ told.disk told.cause);
+      honest = λ known. changed-since _ _ _ c.loop-arc.invariant.later.honest (told-of _ _ told.honest (told.misfit known));
+    })
 
-pub returns-in_err-push-clause-honest : goal.returns-in_err-push-clause-honest
-returns-in_err-push-clause-honest g c =
-    let p = err_from_is_err_and c.from_residual.result c.from_residual.ensures.1 in
-    rw (p.1, p.2) (λ told. changed-since _ _ _ c.loop-arc.invariant.later.honest (told-of _ _ c.in_err-push.ensures.honest (c.in_err-push.ensures.misfit told)))
-
-pub returns-in_err-send-clause-cause : goal.returns-in_err-send-clause-cause
-returns-in_err-send-clause-cause g c =
+pub returns-in_err-send-clause-fails : goal.returns-in_err-send-clause-fails
+returns-in_err-send-clause-fails g c =
     let p = err_from_is_err_and c.from_residual-in_err-send.result c.from_residual-in_err-send.ensures.1 in
+    let told = c.in_err-send.ensures in
     rw (p.1, p.2)
-    (queue-cause-since _ _ _ _ _ _ _ _ c.loop-arc.invariant.later c.loop-arc.invariant.faults (cause-of c.loop-arc.queues _ _ _ _ _ _ _ c.in_err-send.ensures.disk c.in_err-send.ensures.cause))
-
-pub returns-in_err-send-clause-honest : goal.returns-in_err-send-clause-honest
-returns-in_err-send-clause-honest g c =
-    let p = err_from_is_err_and c.from_residual-in_err-send.result c.from_residual-in_err-send.ensures.1 in
-    rw (p.1, p.2) (λ told. changed-since _ _ _ c.loop-arc.invariant.later.honest (told-of _ _ c.in_err-send.ensures.honest (c.in_err-send.ensures.misfit told)))
+    (record {
+      cause = queue-cause-since _ _ _ _ _ _ _ _ c.loop-arc.invariant.later c.loop-arc.invariant.faults (cause-of c.loop-arc.queues _ _ _ _ _ _ _ told.disk told.cause);
+      honest = λ known. changed-since _ _ _ c.loop-arc.invariant.later.honest (told-of _ _ told.honest (told.misfit known));
+    })
 
 pub returns-in_err-push-clause-faults : goal.returns-in_err-push-clause-faults
 returns-in_err-push-clause-faults g c = le_trans c.loop-arc.invariant.faults c.in_err-push.ensures.faults

@@ -9,6 +9,7 @@ use Rattle.sq_flow.specs.Sends.{many, Pushes}
 use Rattle.sq_flow.proofs.SendLemmas.{at_or_other, pushes-same, pushes-one, pushes-only}
 use Rattle.sq_flow.proofs.sending.send_one.Goals as goal
 use Rattle.sq_words.specs.Lists.{contains_number}
+use Rattle.sq_words.proofs.Results.{OnErr_from}
 
 -- a list of one is its first
 only-one : (xs : List ℕ) → 1 ≤ length xs → length xs < 2 → xs ≡ slice_index_or xs 0 0 ∷ []
@@ -64,3 +65,6 @@ returns-in_default-clause-sent g c =
     OnOk c.send_any.result (Pushes c.args.queues.now c.send_any.new.queues (known (g.D.PageDisk.log c.args.disk.now)) (known (g.D.PageDisk.log c.send_any.new.disk))
     (λ arc. many (times_in arc l) (spread c.args.item)) (λ time. c.args.item.time ≤ time) (λ arc. contains_number l arc)))
     c.arcs_at.ensures c.send_any.ensures.sent
+
+pub returns-in-len1-clause-fails : goal.returns-in-len1-clause-fails
+returns-in-len1-clause-fails g c = OnErr_from c.put.result (rw c.requires.whole (record { cause = tt; honest = λ told. tt }))

@@ -30,20 +30,11 @@ new-requires-clause-shaped g c = c.requires.shaped
 pub new-requires-clause-seats : goal.new-requires-clause-seats
 new-requires-clause-seats g c = c.requires.seats
 
-pub new-requires-clause-coming : goal.new-requires-clause-coming
-new-requires-clause-coming g c = c.requires.coming
-
-pub new-requires-clause-few : goal.new-requires-clause-few
-new-requires-clause-few g c = c.requires.few
-
-pub new-requires-clause-few_tuples : goal.new-requires-clause-few_tuples
-new-requires-clause-few_tuples g c = c.requires.few_tuples
+pub new-requires-clause-sources : goal.new-requires-clause-sources
+new-requires-clause-sources g c = c.requires.sources
 
 pub new-requires-clause-levels : goal.new-requires-clause-levels
 new-requires-clause-levels g c = c.requires.levels
-
-pub new-requires-clause-no_levels : goal.new-requires-clause-no_levels
-new-requires-clause-no_levels g c = c.requires.no_levels
 
 pub new-requires-clause-frames : goal.new-requires-clause-frames
 new-requires-clause-frames g c = c.requires.frames

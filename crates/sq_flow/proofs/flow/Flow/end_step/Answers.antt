@@ -1,11 +1,16 @@
-use Rattle.sq_flow.proofs.ReplayFlow.{ended-stepped}
-use Rattle.sq_flow.proofs.TookLemmas.{replay-took}
 use Rattle.std.proofs.Common.{refl, arith, true}
+use Rattle.sq_flow.proofs.ReplayFlow.{ended-stepped, ended-touches}
+use Rattle.sq_flow.proofs.TookLemmas.{replay-took}
 use Rattle.sq_flow.proofs.flow.Flow.end_step.Goals as goal
 
-pub returns-clause-ok : goal.returns-clause-ok
-returns-clause-ok g c = λ pages events together.
-    ended-stepped _ c.args.self.now c.requires.flow pages c.end_arcs.new.queues events together c.requires.none c.end_arcs.ensures.size c.end_arcs.ensures.frames c.end_arcs.ensures.ended c.end_arcs.ensures.items c.end_arcs.ensures.together
-
-pub returns-clause-took : goal.returns-clause-took
-returns-clause-took g c = replay-took c.args.self.now _ 0 true refl (omega arith) refl
+pub returns : goal.returns
+returns g c =
+    let told = c.end_arcs.ensures in
+    record {
+      stepped = λ pages events together. ended-stepped _ c.args.self.now c.requires.flow pages c.end_arcs.new.queues events together c.requires.none told.size told.frames told.ended told.items told.together;
+      closes = λ table agrees. agrees;
+      touches = ended-touches _ c.args.self.now c.requires.flow c.end_arcs.new.queues told.ended told.first told.apart;
+      taken = refl;
+      lowers = rw c.requires.running (omega arith);
+      took = replay-took c.args.self.now _ 0 true refl (omega arith) refl;
+    }

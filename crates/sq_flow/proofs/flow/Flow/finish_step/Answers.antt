@@ -18,37 +18,37 @@ use Rattle.sq_words.proofs.Lists.{get_set_same, get_set_other}
 pub returns-clause-ok : goal.returns-clause-ok
 returns-clause-ok g c =
     let is = slice_get_read c.args.self.now.seats.items _ c.args.actor c.index_mut.result.now refl c.requires.actor_in c.index_mut.ensures.value in
-    let fine = seat-fine _ c.args.self.now c.requires.flow c.args.actor c.requires.actor_in c.requires.head c.index_mut.result.now is in
-    let ran = sym fine.running ∙ runs _ c.args.self.now c.requires.flow c.args.actor c.requires.actor_in c.requires.head c.index_mut.result.now is c.requires.running in
+    let fine = seat-fine _ c.args.self.now c.requires.holds.flow c.args.actor c.requires.actor_in c.requires.head c.index_mut.result.now is in
+    let ran = sym fine.running ∙ runs _ c.args.self.now c.requires.holds.flow c.args.actor c.requires.actor_in c.requires.head c.index_mut.result.now is c.requires.running in
     let less = open-less c.args.self.now.seats.items c.args.actor c.index_mut.result.now c.finish_into.new.seat is ran c.in_ok-finish_into.ensures.finished.finished.closed in
     let same =
-    finished-taken _ c.args.self.now c.requires.flow c.args.actor c.requires.actor_in c.requires.head c.index_mut.result.now is
+    finished-taken _ c.args.self.now c.requires.holds.flow c.args.actor c.requires.actor_in c.requires.head c.index_mut.result.now is
     (with_item c.args.self.now.seats c.args.actor c.finish_into.new.seat) c.end_arcs.new.queues c.finish_into.new.seat (let counted = c.in_ok-finish_into.ensures.finished.finished.after.counted in omega (arith, counted))
     (get_set_same c.args.self.now.seats.items c.args.actor c.finish_into.new.seat c.requires.actor_in)
     (λ other ne. get_set_other c.args.self.now.seats.items c.args.actor other c.finish_into.new.seat ne)
     (length-set c.args.self.now.seats.items c.args.actor c.finish_into.new.seat)
     in
     let after = get_set_same c.args.self.now.seats.items c.args.actor c.finish_into.new.seat c.requires.actor_in in
-    let sums = ended-sum c.args.self.now.wires (length c.args.self.now.seats.items) c.requires.flow.shaped c.args.actor c.requires.actor_in c.args.self.now.queues c.end_arcs.new.queues
+    let sums = ended-sum c.args.self.now.wires (length c.args.self.now.seats.items) c.requires.holds.flow.shaped c.args.actor c.requires.actor_in c.args.self.now.queues c.end_arcs.new.queues
     (λ arc away. c.end_arcs.ensures.apart arc away ∙ c.in_ok-finish_into.ensures.finished.onward.sent.apart arc away) in
     λ n. record {
       moves = record {
         stepped =
-            finished-stepped _ c.args.self.now c.requires.flow c.args.actor c.requires.actor_in c.requires.head c.index_mut.result.now is
+            finished-stepped _ c.args.self.now c.requires.holds.flow c.args.actor c.requires.actor_in c.requires.head c.index_mut.result.now is
             (known (g.D.PageDisk.log c.args.disk.now)) (known (g.D.PageDisk.log c.finish_into.new.disk)) c.finish_into.new.queues c.end_arcs.new.queues _
             c.finish_into.new.seat c.in_ok-finish_into.ensures.finished.items c.in_ok-finish_into.ensures.finished.drops c.args.events.now.items c.finish_into.new.events.items
-            c.requires.together c.in_ok-finish_into.ensures.finished.finished
+            c.requires.holds.together c.in_ok-finish_into.ensures.finished.finished
             (get_set_same c.args.self.now.seats.items c.args.actor c.finish_into.new.seat c.requires.actor_in)
             (λ other ne. get_set_other c.args.self.now.seats.items c.args.actor other c.finish_into.new.seat ne)
             (length-set c.args.self.now.seats.items c.args.actor c.finish_into.new.seat)
             c.in_ok-finish_into.ensures.finished.onward.sent c.end_arcs.ensures.size c.end_arcs.ensures.frames c.end_arcs.ensures.ended c.end_arcs.ensures.items c.end_arcs.ensures.together c.in_ok-finish_into.ensures.finished.onward.shown.lines c.requires.running c.in_ok-finish_into.ensures.finished.onward.shown.decided
             (c.in_ok-finish_into.ensures.finished.onward.shown.below (length c.args.self.now.seats.items - c.args.self.now.wires.shown) (below-outputs c.args.actor (length c.args.self.now.seats.items) c.args.self.now.wires.shown c.requires.actor_in)
-            (own-drops _ c.args.self.now c.requires.flow c.args.actor c.requires.actor_in c.requires.head c.index_mut.result.now is
+            (own-drops _ c.args.self.now c.requires.holds.flow c.args.actor c.requires.actor_in c.requires.head c.index_mut.result.now is
             c.finish_into.new.seat c.in_ok-finish_into.ensures.finished.items c.in_ok-finish_into.ensures.finished.drops c.in_ok-finish_into.ensures.finished.finished c.requires.running))
             c.in_ok-finish_into.ensures.finished.onward.shown.plans;
         keeps = record { faults = c.in_ok-finish_into.ensures.faults; later = c.in_ok-finish_into.ensures.later; stay = c.in_ok-finish_into.ensures.finished.onward.shown.stay };
         touches =
-            finished-touches _ c.args.self.now c.requires.flow c.args.actor c.requires.actor_in c.requires.head c.index_mut.result.now is
+            finished-touches _ c.args.self.now c.requires.holds.flow c.args.actor c.requires.actor_in c.requires.head c.index_mut.result.now is
             (known (g.D.PageDisk.log c.args.disk.now)) (known (g.D.PageDisk.log c.finish_into.new.disk)) c.finish_into.new.queues c.end_arcs.new.queues _ c.in_ok-finish_into.ensures.finished.items
             (λ other ne. get_set_other c.args.self.now.seats.items c.args.actor other c.finish_into.new.seat ne)
             c.in_ok-finish_into.ensures.finished.onward.sent c.end_arcs.ensures.ended c.end_arcs.ensures.first c.end_arcs.ensures.apart;
@@ -70,48 +70,41 @@ returns-in_err-finish_into-clause-err g c =
       keeps = record { faults = c.in_err-finish_into.ensures.faults; later = c.in_err-finish_into.ensures.later; stay = c.in_err-finish_into.ensures.part.shown.stay };
       closes = λ table agrees. agrees;
       prefix =
-          finished-part _ c.args.self.now c.requires.flow c.args.actor c.requires.actor_in c.requires.head c.index_mut.result.now is
+          finished-part _ c.args.self.now c.requires.holds.flow c.args.actor c.requires.actor_in c.requires.head c.index_mut.result.now is
           (known (g.D.PageDisk.log c.args.disk.now)) (known (g.D.PageDisk.log c.finish_into.new.disk)) c.args.events.now.items c.finish_into.new.events.items
-          c.requires.together c.in_err-finish_into.ensures.later.known c.in_err-finish_into.ensures.part c.requires.running;
+          c.requires.holds.together c.in_err-finish_into.ensures.later.known c.in_err-finish_into.ensures.part c.requires.running;
       plans = plans-stay c.args.self.now c.args.events.now.items c.finish_into.new.events.items c.in_err-finish_into.ensures.part.shown.plans;
-      strange = λ told table agrees holds. c.in_err-finish_into.ensures.honest told;
-      cause = cause-in _ _ _ _ _ _ c.in_err-finish_into.ensures.cause;
+      strange = λ told table agrees holds. c.in_err-finish_into.ensures.fails.honest told;
+      cause = cause-in _ _ _ _ _ _ c.in_err-finish_into.ensures.fails.cause;
       feed =
-          fails-here _ _ _ _ _ _ _ c.requires.flow c.requires.together c.in_err-finish_into.ensures.later
-          (feeds-none _ _ _ _ _ _ _ _ _ _ c.in_err-finish_into.ensures.cause);
-      cost = costs-none _ c.args.self.now c.requires.flow (known (g.D.PageDisk.log c.args.disk.now)) (known (g.D.PageDisk.log c.finish_into.new.disk)) c.args.self.now.levels n n refl;
-      too_much = none-too-much _ _ _ _ _ _ (counts-none _ _ _ _ _ _ c.in_err-finish_into.ensures.cause);
+          fails-here _ _ _ _ _ _ _ c.requires.holds.flow c.requires.holds.together c.in_err-finish_into.ensures.later
+          (feeds-none _ _ _ _ _ _ _ _ _ _ c.in_err-finish_into.ensures.fails.cause);
+      cost = costs-none _ c.args.self.now c.requires.holds.flow (known (g.D.PageDisk.log c.args.disk.now)) (known (g.D.PageDisk.log c.finish_into.new.disk)) c.args.self.now.levels n n refl;
+      too_much = none-too-much _ _ _ _ _ _ (counts-none _ _ _ _ _ _ c.in_err-finish_into.ensures.fails.cause);
     })
 
-pub finish_into-requires-clause-there : goal.finish_into-requires-clause-there
-finish_into-requires-clause-there g c = arcs-open _ c.args.self.now c.requires.flow c.args.actor c.requires.running
-
-pub finish_into-requires-clause-joined : goal.finish_into-requires-clause-joined
-finish_into-requires-clause-joined g c = comes-from c.args.self.now.wires (length c.args.self.now.seats.items) c.requires.flow.shaped c.args.actor
-
-pub finish_into-requires-clause-within : goal.finish_into-requires-clause-within
-finish_into-requires-clause-within g c = omega (arith, c.requires.actor_in, c.requires.flow.shaped.readers_len)
-
-pub finish_into-requires-clause-shown : goal.finish_into-requires-clause-shown
-finish_into-requires-clause-shown g c = λ past port. c.requires.flow.shaped.outputs_end c.args.actor port past c.requires.actor_in
-
-pub finish_into-requires-clause-together : goal.finish_into-requires-clause-together
-finish_into-requires-clause-together g c = c.requires.together
+pub finish_into-requires-clause-gives : goal.finish_into-requires-clause-gives
+finish_into-requires-clause-gives g c =
+    record {
+      within = omega (arith, c.requires.actor_in, c.requires.holds.flow.shaped.readers_len);
+      shown = λ past port. c.requires.holds.flow.shaped.outputs_end c.args.actor port past c.requires.actor_in;
+      there = arcs-open _ c.args.self.now c.requires.holds.flow c.args.actor c.requires.running;
+      joined = comes-from c.args.self.now.wires (length c.args.self.now.seats.items) c.requires.holds.flow.shaped c.args.actor;
+      together = c.requires.holds.together;
+      whole = c.requires.whole;
+    }
 
 pub finish_into-requires-clause-is_valid : goal.finish_into-requires-clause-is_valid
 finish_into-requires-clause-is_valid g c =
     let is = slice_get_read c.args.self.now.seats.items _ c.args.actor c.index_mut.result.now refl c.requires.actor_in c.index_mut.ensures.value in
-    let fine = seat-fine _ c.args.self.now c.requires.flow c.args.actor c.requires.actor_in c.requires.head c.index_mut.result.now is in
-    (fine.arcs.is_valid, runs _ c.args.self.now c.requires.flow c.args.actor c.requires.actor_in c.requires.head c.index_mut.result.now is c.requires.running)
+    let fine = seat-fine _ c.args.self.now c.requires.holds.flow c.args.actor c.requires.actor_in c.requires.head c.index_mut.result.now is in
+    (fine.arcs.is_valid, runs _ c.args.self.now c.requires.holds.flow c.args.actor c.requires.actor_in c.requires.head c.index_mut.result.now is c.requires.running)
 
 pub end_arcs-requires-clause-few : goal.end_arcs-requires-clause-few
-end_arcs-requires-clause-few g c = c.requires.flow.shaped.few_arcs
+end_arcs-requires-clause-few g c = c.requires.holds.flow.shaped.few_arcs
 
 pub end_arcs-requires-clause-lanes : goal.end_arcs-requires-clause-lanes
-end_arcs-requires-clause-lanes g c = c.in_ok-finish_into.ensures.finished.onward.sent.lanes ∙ c.requires.flow.lanes
-
-pub finish_into-requires-clause-whole : goal.finish_into-requires-clause-whole
-finish_into-requires-clause-whole g c = c.requires.whole
+end_arcs-requires-clause-lanes g c = c.in_ok-finish_into.ensures.finished.onward.sent.lanes ∙ c.requires.holds.flow.lanes
 
 pub returns-clause-whole : goal.returns-clause-whole
 returns-clause-whole g c = c.in_ok-finish_into.ensures.whole

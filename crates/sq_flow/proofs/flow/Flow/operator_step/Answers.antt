@@ -8,7 +8,7 @@ use Rattle.sq_flow.proofs.flow.Flow.operator_step.Goals as goal
 
 pub returns-in-Waits-clause-ok : goal.returns-in-Waits-clause-ok
 returns-in-Waits-clause-ok g c =
-    step-waits _ c.args.actor _ c.requires.flow c.requires.together
+    step-waits _ c.args.actor _ c.requires.holds.flow c.requires.holds.together
     (waits-not-ready c.args.self.now c.args.actor (rw c.arcs_of.ensures (rw (← c.deref.ensures.value) c.in-Waits.ensures)))
 
 pub returns-in_ok-finish_step-in-Ended-clause-ok : goal.returns-in_ok-finish_step-in-Ended-clause-ok
@@ -29,12 +29,12 @@ pub finish_step-requires-clause-head : goal.finish_step-requires-clause-head
 finish_step-requires-clause-head g c = rw c.arcs_of.ensures (rw (← c.deref.ensures.value) c.in-Ended.ensures)
 
 pub arcs_of-requires : goal.arcs_of-requires
-arcs_of-requires g c = omega (arith, c.requires.actor_in, c.requires.flow.shaped.inputs_len)
+arcs_of-requires g c = omega (arith, c.requires.actor_in, c.requires.holds.flow.shaped.inputs_len)
 
 pub next_of-requires-clause-arcs_in : goal.next_of-requires-clause-arcs_in
 next_of-requires-clause-arcs_in g c = λ port arc is.
-    subst (λ (n : ℕ). arc < n) (sym c.requires.flow.lanes)
-    (c.requires.flow.shaped.arcs_in c.args.actor port arc (ap (λ l. slice_get l port) (ap numbers_in c.arcs_of.ensures ∙ sym c.deref.ensures.value) ∙ is))
+    subst (λ (n : ℕ). arc < n) (sym c.requires.holds.flow.lanes)
+    (c.requires.holds.flow.shaped.arcs_in c.args.actor port arc (ap (λ l. slice_get l port) (ap numbers_in c.arcs_of.ensures ∙ sym c.deref.ensures.value) ∙ is))
 
 pub next_of-requires-clause-ports : goal.next_of-requires-clause-ports
-next_of-requires-clause-ports g c = subst (λ (l : List ℕ). length l < 2 ^ 32) (ap numbers_in c.arcs_of.ensures ∙ sym c.deref.ensures.value) (c.requires.flow.shaped.ports c.args.actor)
+next_of-requires-clause-ports g c = subst (λ (l : List ℕ). length l < 2 ^ 32) (ap numbers_in c.arcs_of.ensures ∙ sym c.deref.ensures.value) (c.requires.holds.flow.shaped.ports c.args.actor)

@@ -33,23 +33,24 @@ returns-in-Ok-clause-ok g c =
     let at = slice_get_read sources _ c.args.source c.index_mut.result.now refl c.requires.next.there c.index_mut.ensures.value in
     let pos : 0 < c.args.self.now.levels.epoch = omega (arith, c.epoch.ensures.epoch, c.epoch.ensures.lasts) in
     let next_is = next-is _ _ _ _ c.epoch_of-next.ensures c.epoch.ensures.epoch in
-    let done = c.in_ok-close_before.ensures in
+    let part = c.in_ok-close_before.ensures.closes in
+    let done = c.in_ok-close_before.ensures.ok in
     let did = subst (λ (n : ℕ). ClosedBefore c.args.self.now.planner c.close_before.new.planner c.args.self.now.levels c.close_before.new.levels c.args.self.now.counts.items c.close_before.new.counts.items
     n c.args.events.now.items c.close_before.new.events.items) next_is
     (record {
-      same = done.same;
-      epoch = done.epoch;
+      same = part.same;
+      epoch = part.epoch;
       closed = done.closed;
-      keeps = done.keeps;
+      keeps = part.keeps;
       counts = done.counts;
-      agrees = done.agrees;
+      agrees = part.agrees;
       plans = done.plans;
-      lines = done.lines;
-      drops = done.drops;
-      within = done.within;
+      lines = part.lines;
+      drops = part.drops;
+      within = part.within;
     }) in
-    let len = mid-len _ c.args.self.now c.requires.flow pos c.args.source c.index_mut.result.now c.first_of.new.stream c.in_ok-tuple.tuple c.requires.next at c.in_ok-tuple.ensures.ok _ _ _ _ _ did in
-    let within : c.args.source < length c.close_before.new.counts.items = omega (arith, len, c.requires.flow.replay.counted, c.requires.next.there) in
+    let len = mid-len _ c.args.self.now c.requires.holds.flow pos c.args.source c.index_mut.result.now c.first_of.new.stream c.in_ok-tuple.tuple c.requires.next at c.in_ok-tuple.ensures.ok _ _ _ _ _ did in
+    let within : c.args.source < length c.close_before.new.counts.items = omega (arith, len, c.requires.holds.flow.replay.counted, c.requires.next.there) in
     let read = get_or_from_slice_get c.close_before.new.counts.items c.args.source c.index_mut-2.result.now 0
     (slice_get_read c.close_before.new.counts.items _ c.args.source c.index_mut-2.result.now refl within c.index_mut-2.ensures.value) in
     let counted = ap (λ n. set c.close_before.new.counts.items c.args.source (n + 1)) (sym read) in
@@ -57,12 +58,12 @@ returns-in-Ok-clause-ok g c =
     λ n. record {
       moves = record {
         stepped =
-            released-stepped _ c.args.self.now c.requires.flow pos c.args.source c.index_mut.result.now c.first_of.new.stream c.in_ok-tuple.tuple c.requires.next at c.in_ok-tuple.ensures.ok _ _ _ _ _ did
+            released-stepped _ c.args.self.now c.requires.holds.flow pos c.args.source c.index_mut.result.now c.first_of.new.stream c.in_ok-tuple.tuple c.requires.next at c.in_ok-tuple.ensures.ok _ _ _ _ _ did
             (with_item c.args.self.now.sources c.args.source c.first_of.new.stream) (with_item c.close_before.new.counts c.args.source (c.index_mut-2.result.now + 1)) refl counted
-            (known (g.D.PageDisk.log c.args.disk.now)) (known (g.D.PageDisk.log c.send_one.new.disk)) c.send_one.new.queues c.requires.together (rw (c.none.ensures, c.some.ensures) at c.in-Ok.ensures.sent);
-        keeps = record { faults = c.in-Ok.ensures.faults; later = c.in-Ok.ensures.later; stay = c.in_ok-close_before.ensures.stay };
+            (known (g.D.PageDisk.log c.args.disk.now)) (known (g.D.PageDisk.log c.send_one.new.disk)) c.send_one.new.queues c.requires.holds.together (rw (c.none.ensures, c.some.ensures) at c.in-Ok.ensures.sent);
+        keeps = record { faults = c.in-Ok.ensures.faults; later = c.in-Ok.ensures.later; stay = c.in_ok-close_before.ensures.closes.stay };
         touches =
-            released-touches _ c.args.self.now c.requires.flow pos c.args.source c.index_mut.result.now c.first_of.new.stream c.in_ok-tuple.tuple c.requires.next at c.in_ok-tuple.ensures.ok
+            released-touches _ c.args.self.now c.requires.holds.flow pos c.args.source c.index_mut.result.now c.first_of.new.stream c.in_ok-tuple.tuple c.requires.next at c.in_ok-tuple.ensures.ok
             (known (g.D.PageDisk.log c.args.disk.now)) (known (g.D.PageDisk.log c.send_one.new.disk)) c.send_one.new.queues (with_item c.args.self.now.sources c.args.source c.first_of.new.stream) c.close_before.new.planner c.close_before.new.levels
             (with_item c.close_before.new.counts c.args.source (c.index_mut-2.result.now + 1)) (rw (c.none.ensures, c.some.ensures) at c.in-Ok.ensures.sent);
         cost = refl;
@@ -70,7 +71,7 @@ returns-in-Ok-clause-ok g c =
       lowers = omega (arith, less);
       took =
           replay-took c.args.self.now _ 1 false refl less
-          (sym (replay-runs _ c.args.self.now c.requires.flow pos c.args.source c.index_mut.result.now c.first_of.new.stream c.in_ok-tuple.tuple c.requires.next at c.in_ok-tuple.ensures.ok));
+          (sym (replay-runs _ c.args.self.now c.requires.holds.flow pos c.args.source c.index_mut.result.now c.first_of.new.stream c.in_ok-tuple.tuple c.requires.next at c.in_ok-tuple.ensures.ok));
       waits = tt;
     }
 
@@ -85,8 +86,8 @@ returns-in_err-tuple-clause-err g c =
       plans = plans-stay c.args.self.now c.args.events.now.items c.args.events.now.items refl;
       strange = λ told table agrees holds. tt;
       cause = tt;
-      feed = fails-here _ _ _ _ _ _ _ c.requires.flow c.requires.together (IsLater-refl _) tt;
-      cost = costs-none _ c.args.self.now c.requires.flow (known (g.D.PageDisk.log c.args.disk.now)) (known (g.D.PageDisk.log c.args.disk.now)) c.args.self.now.levels n n refl;
+      feed = fails-here _ _ _ _ _ _ _ c.requires.holds.flow c.requires.holds.together (IsLater-refl _) tt;
+      cost = costs-none _ c.args.self.now c.requires.holds.flow (known (g.D.PageDisk.log c.args.disk.now)) (known (g.D.PageDisk.log c.args.disk.now)) c.args.self.now.levels n n refl;
       too_much = none-too-much _ _ _ _ _ _ (λ same. cc same);
     })
 
@@ -99,18 +100,18 @@ returns-in_err-close_before-clause-err g c =
     let next_is = next-is _ _ _ _ c.epoch_of-next.ensures c.epoch.ensures.epoch in
     rw (p.1, p.2)
     (λ n. record {
-      keeps = record { faults = le_refl _; later = IsLater-refl _; stay = c.in_err-close_before.ensures.stay };
-      closes = agrees-before c.args.self.now.levels c.close_before.new.levels c.in_err-close_before.ensures.keeps c.in_err-close_before.ensures.grows;
-      prefix = lines-stay _ (known (g.D.PageDisk.log c.args.disk.now)) (known (g.D.PageDisk.log c.args.disk.now)) c.args.self.now c.close_before.new.levels c.args.events.now.items c.close_before.new.events.items c.in_err-close_before.ensures.lines c.in_err-close_before.ensures.drops;
+      keeps = record { faults = le_refl _; later = IsLater-refl _; stay = c.in_err-close_before.ensures.closes.stay };
+      closes = agrees-before c.args.self.now.levels c.close_before.new.levels c.in_err-close_before.ensures.closes.keeps c.in_err-close_before.ensures.closes.grows;
+      prefix = lines-stay _ (known (g.D.PageDisk.log c.args.disk.now)) (known (g.D.PageDisk.log c.args.disk.now)) c.args.self.now c.close_before.new.levels c.args.events.now.items c.close_before.new.events.items c.in_err-close_before.ensures.closes.lines c.in_err-close_before.ensures.closes.drops;
       plans =
-          plans-none _ c.args.self.now c.requires.flow pos c.args.source c.index_mut.result.now c.first_of.new.stream c.in_ok-tuple.tuple c.requires.next at c.in_ok-tuple.ensures.ok c.close_before.new.levels c.args.events.now.items c.close_before.new.events.items
+          plans-none _ c.args.self.now c.requires.holds.flow pos c.args.source c.index_mut.result.now c.first_of.new.stream c.in_ok-tuple.tuple c.requires.next at c.in_ok-tuple.ensures.ok c.close_before.new.levels c.args.events.now.items c.close_before.new.events.items
           (λ all. subst (λ (n : ℕ). (c.args.self.now.levels.closed < n + 1 → Ended all (c.args.self.now.levels.closed - 1) n c.args.self.now.counts.items)
-          → AgreesWith c.args.self.now.levels (level_for c.args.self.now.planner all) → AgreesWith c.close_before.new.levels (level_for c.args.self.now.planner all)) next_is (c.in_err-close_before.ensures.agrees all))
+          → AgreesWith c.args.self.now.levels (level_for c.args.self.now.planner all) → AgreesWith c.close_before.new.levels (level_for c.args.self.now.planner all)) next_is (c.in_err-close_before.ensures.closes.agrees all))
           c.in_err-close_before.ensures.err;
       strange = λ told table agrees holds. tt;
       cause = tt;
-      feed = fails-here _ _ _ _ _ _ _ c.requires.flow c.requires.together (IsLater-refl _) tt;
-      cost = costs-none _ c.args.self.now c.requires.flow (known (g.D.PageDisk.log c.args.disk.now)) (known (g.D.PageDisk.log c.args.disk.now)) c.close_before.new.levels n n refl;
+      feed = fails-here _ _ _ _ _ _ _ c.requires.holds.flow c.requires.holds.together (IsLater-refl _) tt;
+      cost = costs-none _ c.args.self.now c.requires.holds.flow (known (g.D.PageDisk.log c.args.disk.now)) (known (g.D.PageDisk.log c.args.disk.now)) c.close_before.new.levels n n refl;
       too_much = none-too-much _ _ _ _ _ _ (λ same. cc same);
     })
 
@@ -120,39 +121,40 @@ returns-in-Err-clause-err g c =
     let at = slice_get_read sources _ c.args.source c.index_mut.result.now refl c.requires.next.there c.index_mut.ensures.value in
     let pos : 0 < c.args.self.now.levels.epoch = omega (arith, c.epoch.ensures.epoch, c.epoch.ensures.lasts) in
     let next_is = next-is _ _ _ _ c.epoch_of-next.ensures c.epoch.ensures.epoch in
-    let done = c.in_ok-close_before.ensures in
+    let part = c.in_ok-close_before.ensures.closes in
+    let done = c.in_ok-close_before.ensures.ok in
     let did = subst (λ (n : ℕ). ClosedBefore c.args.self.now.planner c.close_before.new.planner c.args.self.now.levels c.close_before.new.levels c.args.self.now.counts.items c.close_before.new.counts.items
     n c.args.events.now.items c.close_before.new.events.items) next_is
     (record {
-      same = done.same;
-      epoch = done.epoch;
+      same = part.same;
+      epoch = part.epoch;
       closed = done.closed;
-      keeps = done.keeps;
+      keeps = part.keeps;
       counts = done.counts;
-      agrees = done.agrees;
+      agrees = part.agrees;
       plans = done.plans;
-      lines = done.lines;
-      drops = done.drops;
-      within = done.within;
+      lines = part.lines;
+      drops = part.drops;
+      within = part.within;
     }) in
-    let len = mid-len _ c.args.self.now c.requires.flow pos c.args.source c.index_mut.result.now c.first_of.new.stream c.in_ok-tuple.tuple c.requires.next at c.in_ok-tuple.ensures.ok _ _ _ _ _ did in
-    let within : c.args.source < length c.close_before.new.counts.items = omega (arith, len, c.requires.flow.replay.counted, c.requires.next.there) in
+    let len = mid-len _ c.args.self.now c.requires.holds.flow pos c.args.source c.index_mut.result.now c.first_of.new.stream c.in_ok-tuple.tuple c.requires.next at c.in_ok-tuple.ensures.ok _ _ _ _ _ did in
+    let within : c.args.source < length c.close_before.new.counts.items = omega (arith, len, c.requires.holds.flow.replay.counted, c.requires.next.there) in
     let read = get_or_from_slice_get c.close_before.new.counts.items c.args.source c.index_mut-2.result.now 0
     (slice_get_read c.close_before.new.counts.items _ c.args.source c.index_mut-2.result.now refl within c.index_mut-2.ensures.value) in
     let counted = ap (λ n. set c.close_before.new.counts.items c.args.source (n + 1)) (sym read) in
     rw (c.fault_of.ensures, c.take.ensures.value)
     (λ n. record {
-      keeps = record { faults = c.in-Err.ensures.faults; later = c.in-Err.ensures.later; stay = c.in_ok-close_before.ensures.stay };
-      closes = agrees-before c.args.self.now.levels c.close_before.new.levels c.in_ok-close_before.ensures.keeps c.in_ok-close_before.ensures.grows;
-      prefix = lines-stay _ (known (g.D.PageDisk.log c.args.disk.now)) (known (g.D.PageDisk.log c.send_one.new.disk)) c.args.self.now c.close_before.new.levels c.args.events.now.items c.close_before.new.events.items c.in_ok-close_before.ensures.lines c.in_ok-close_before.ensures.drops;
+      keeps = record { faults = c.in-Err.ensures.faults; later = c.in-Err.ensures.later; stay = c.in_ok-close_before.ensures.closes.stay };
+      closes = agrees-before c.args.self.now.levels c.close_before.new.levels c.in_ok-close_before.ensures.closes.keeps c.in_ok-close_before.ensures.closes.grows;
+      prefix = lines-stay _ (known (g.D.PageDisk.log c.args.disk.now)) (known (g.D.PageDisk.log c.send_one.new.disk)) c.args.self.now c.close_before.new.levels c.args.events.now.items c.close_before.new.events.items c.in_ok-close_before.ensures.closes.lines c.in_ok-close_before.ensures.closes.drops;
       plans =
-          plans-front _ c.args.self.now c.requires.flow pos c.args.source c.index_mut.result.now c.first_of.new.stream c.in_ok-tuple.tuple c.requires.next at c.in_ok-tuple.ensures.ok _ _ _ _ _ did
+          plans-front _ c.args.self.now c.requires.holds.flow pos c.args.source c.index_mut.result.now c.first_of.new.stream c.in_ok-tuple.tuple c.requires.next at c.in_ok-tuple.ensures.ok _ _ _ _ _ did
           c.send_one.new.queues (with_item c.args.self.now.sources c.args.source c.first_of.new.stream) (with_item c.close_before.new.counts c.args.source (c.index_mut-2.result.now + 1)) refl counted;
-      strange = λ told table agrees holds. c.in-Err.ensures.honest told;
-      cause = cause-in _ _ _ _ _ _ c.in-Err.ensures.cause;
-      feed = fails-here _ _ _ _ _ _ _ c.requires.flow c.requires.together c.in-Err.ensures.later (feeds-none _ _ _ _ _ _ _ _ _ _ c.in-Err.ensures.cause);
-      cost = costs-none _ c.args.self.now c.requires.flow (known (g.D.PageDisk.log c.args.disk.now)) (known (g.D.PageDisk.log c.send_one.new.disk)) c.close_before.new.levels n n refl;
-      too_much = none-too-much _ _ _ _ _ _ (counts-none _ _ _ _ _ _ c.in-Err.ensures.cause);
+      strange = λ told table agrees holds. c.in-Err.ensures.fails.honest told;
+      cause = cause-in _ _ _ _ _ _ c.in-Err.ensures.fails.cause;
+      feed = fails-here _ _ _ _ _ _ _ c.requires.holds.flow c.requires.holds.together c.in-Err.ensures.later (feeds-none _ _ _ _ _ _ _ _ _ _ c.in-Err.ensures.fails.cause);
+      cost = costs-none _ c.args.self.now c.requires.holds.flow (known (g.D.PageDisk.log c.args.disk.now)) (known (g.D.PageDisk.log c.send_one.new.disk)) c.close_before.new.levels n n refl;
+      too_much = none-too-much _ _ _ _ _ _ (counts-none _ _ _ _ _ _ c.in-Err.ensures.fails.cause);
     })
 
 pub send_one-requires-clause-there : goal.send_one-requires-clause-there
@@ -160,8 +162,8 @@ send_one-requires-clause-there g c =
     let sources = c.args.self.now.sources.items in
     let at = slice_get_read sources _ c.args.source c.index_mut.result.now refl c.requires.next.there c.index_mut.ensures.value in
     let pos : 0 < c.args.self.now.levels.epoch = omega (arith, c.epoch.ensures.epoch, c.epoch.ensures.lasts) in
-    arcs-open _ c.args.self.now c.requires.flow c.args.self.now.wires.replay
-    (replay-open _ c.args.self.now c.requires.flow (replay-runs _ c.args.self.now c.requires.flow pos c.args.source c.index_mut.result.now c.first_of.new.stream c.in_ok-tuple.tuple c.requires.next at c.in_ok-tuple.ensures.ok)) c.args.source
+    arcs-open _ c.args.self.now c.requires.holds.flow c.args.self.now.wires.replay
+    (replay-open _ c.args.self.now c.requires.holds.flow (replay-runs _ c.args.self.now c.requires.holds.flow pos c.args.source c.index_mut.result.now c.first_of.new.stream c.in_ok-tuple.tuple c.requires.next at c.in_ok-tuple.ensures.ok)) c.args.source
 
 pub send_one-requires-clause-sound : goal.send_one-requires-clause-sound
 send_one-requires-clause-sound g c =
@@ -169,7 +171,7 @@ send_one-requires-clause-sound g c =
     let at = slice_get_read sources _ c.args.source c.index_mut.result.now refl c.requires.next.there c.index_mut.ensures.value in
     let pos : 0 < c.args.self.now.levels.epoch = omega (arith, c.epoch.ensures.epoch, c.epoch.ensures.lasts) in
     rw (c.none.ensures, c.some.ensures)
-    (item-sound _ c.args.self.now c.requires.flow pos c.args.source c.index_mut.result.now c.first_of.new.stream c.in_ok-tuple.tuple c.requires.next at c.in_ok-tuple.ensures.ok)
+    (item-sound _ c.args.self.now c.requires.holds.flow pos c.args.source c.index_mut.result.now c.first_of.new.stream c.in_ok-tuple.tuple c.requires.next at c.in_ok-tuple.ensures.ok)
 
 -- something is left of the source that releases next
 some-left : (sources : List Recorded) (source : ℕ) (v : Recorded) → IsNextSource sources source → slice_get sources source ≡ Some v → 0 < length v.items
@@ -185,7 +187,7 @@ first_of-requires g c =
     (slice_get_read c.args.self.now.sources.items _ c.args.source c.index_mut.result.now refl c.requires.next.there c.index_mut.ensures.value)
 
 pub close_before-requires-clause-counts : goal.close_before-requires-clause-counts
-close_before-requires-clause-counts g c = few-each c.args.self.now.counts.items (λ k. let few = c.requires.flow.replay.few_tuples k in omega (arith, few))
+close_before-requires-clause-counts g c = few-each c.args.self.now.counts.items (λ k. let few = c.requires.holds.flow.replay.few_tuples k in omega (arith, few))
 
 pub epoch_of-next-requires-clause-later : goal.epoch_of-next-requires-clause-later
 epoch_of-next-requires-clause-later g c =
@@ -193,7 +195,7 @@ epoch_of-next-requires-clause-later g c =
     let at = slice_get_read sources _ c.args.source c.index_mut.result.now refl c.requires.next.there c.index_mut.ensures.value in
     let pos : 0 < c.args.self.now.levels.epoch = omega (arith, c.epoch.ensures.epoch, c.epoch.ensures.lasts) in
     rw c.closed.ensures.closed (subst (λ (n : ℕ). c.args.self.now.levels.closed ≤ c.in_ok-tuple.tuple.time / n + 1) (sym c.epoch.ensures.epoch)
-    (not-before _ c.args.self.now c.requires.flow pos c.args.source c.index_mut.result.now c.first_of.new.stream c.in_ok-tuple.tuple c.requires.next at c.in_ok-tuple.ensures.ok))
+    (not-before _ c.args.self.now c.requires.holds.flow pos c.args.source c.index_mut.result.now c.first_of.new.stream c.in_ok-tuple.tuple c.requires.next at c.in_ok-tuple.ensures.ok))
 
 pub close_before-requires-clause-later : goal.close_before-requires-clause-later
 close_before-requires-clause-later g c =
@@ -202,30 +204,30 @@ close_before-requires-clause-later g c =
     let pos : 0 < c.args.self.now.levels.epoch = omega (arith, c.epoch.ensures.epoch, c.epoch.ensures.lasts) in
     let next_is = next-is _ _ _ _ c.epoch_of-next.ensures c.epoch.ensures.epoch in
     subst (λ (n : ℕ). c.args.self.now.levels.closed ≤ n + 1) (sym next_is)
-    (not-before _ c.args.self.now c.requires.flow pos c.args.source c.index_mut.result.now c.first_of.new.stream c.in_ok-tuple.tuple c.requires.next at c.in_ok-tuple.ensures.ok)
+    (not-before _ c.args.self.now c.requires.holds.flow pos c.args.source c.index_mut.result.now c.first_of.new.stream c.in_ok-tuple.tuple c.requires.next at c.in_ok-tuple.ensures.ok)
 
 pub index_mut-requires : goal.index_mut-requires
 index_mut-requires g c = omega (arith, c.requires.next.there, c.args.self.now.sources.ok.0)
 
 pub index_mut-requires-2 : goal.index_mut-requires-2
 index_mut-requires-2 g c =
-    let len = closed-len _ c.args.self.now.counts.items c.close_before.new.counts.items c.in_ok-close_before.ensures.counts in
-    omega (arith, len, c.requires.flow.replay.counted, c.requires.next.there, c.close_before.new.counts.ok.0)
+    let len = closed-len _ c.args.self.now.counts.items c.close_before.new.counts.items c.in_ok-close_before.ensures.ok.counts in
+    omega (arith, len, c.requires.holds.flow.replay.counted, c.requires.next.there, c.close_before.new.counts.ok.0)
 
 pub send_one-requires-clause-together : goal.send_one-requires-clause-together
-send_one-requires-clause-together g c = c.requires.together
+send_one-requires-clause-together g c = c.requires.holds.together
 
 pub send_one-requires-clause-within : goal.send_one-requires-clause-within
-send_one-requires-clause-within g c = let many = c.requires.flow.shaped.readers_len in let replay = c.requires.flow.shaped.replay_is in omega (arith, many, replay)
+send_one-requires-clause-within g c = let many = c.requires.holds.flow.shaped.readers_len in let replay = c.requires.holds.flow.shaped.replay_is in omega (arith, many, replay)
 
 pub overflow_add-index_mut : goal.overflow_add-index_mut
 overflow_add-index_mut g c =
-    let len = closed-len _ c.args.self.now.counts.items c.close_before.new.counts.items c.in_ok-close_before.ensures.counts in
-    let within : c.args.source < length c.close_before.new.counts.items = omega (arith, len, c.requires.flow.replay.counted, c.requires.next.there) in
+    let len = closed-len _ c.args.self.now.counts.items c.close_before.new.counts.items c.in_ok-close_before.ensures.ok.counts in
+    let within : c.args.source < length c.close_before.new.counts.items = omega (arith, len, c.requires.holds.flow.replay.counted, c.requires.next.there) in
     let read = get_or_from_slice_get c.close_before.new.counts.items c.args.source c.index_mut-2.result.now 0
     (slice_get_read c.close_before.new.counts.items _ c.args.source c.index_mut-2.result.now refl within c.index_mut-2.ensures.value) in
-    let low = closed-low _ c.args.self.now.counts.items c.close_before.new.counts.items c.in_ok-close_before.ensures.counts c.args.source in
-    let few = c.requires.flow.replay.few_tuples c.args.source in
+    let low = closed-low _ c.args.self.now.counts.items c.close_before.new.counts.items c.in_ok-close_before.ensures.ok.counts c.args.source in
+    let few = c.requires.holds.flow.replay.few_tuples c.args.source in
     record { fits = omega (arith, read, low, few) }
 
 pub close_before-requires-clause-fits : goal.close_before-requires-clause-fits
@@ -233,7 +235,7 @@ close_before-requires-clause-fits g c =
     let sources = c.args.self.now.sources.items in
     let at = slice_get_read sources _ c.args.source c.index_mut.result.now refl c.requires.next.there c.index_mut.ensures.value in
     let pos : 0 < c.args.self.now.levels.epoch = omega (arith, c.epoch.ensures.epoch, c.epoch.ensures.lasts) in
-    let low = (in-time _ c.args.self.now c.requires.flow pos c.args.source c.index_mut.result.now c.first_of.new.stream c.in_ok-tuple.tuple c.requires.next at c.in_ok-tuple.ensures.ok).1 in
+    let low = (in-time _ c.args.self.now c.requires.holds.flow pos c.args.source c.index_mut.result.now c.first_of.new.stream c.in_ok-tuple.tuple c.requires.next at c.in_ok-tuple.ensures.ok).1 in
     omega (arith, low, c.epoch_of-next.ensures, div-le_self c.in_ok-tuple.tuple.time c.epoch.result)
 
 pub some-requires : goal.some-requires
@@ -241,7 +243,7 @@ some-requires g c =
     let sources = c.args.self.now.sources.items in
     let at = slice_get_read sources _ c.args.source c.index_mut.result.now refl c.requires.next.there c.index_mut.ensures.value in
     let pos : 0 < c.args.self.now.levels.epoch = omega (arith, c.epoch.ensures.epoch, c.epoch.ensures.lasts) in
-    let low = (sound _ c.args.self.now c.requires.flow pos c.args.source c.index_mut.result.now c.first_of.new.stream c.in_ok-tuple.tuple c.requires.next at c.in_ok-tuple.ensures.ok).1 in
+    let low = (sound _ c.args.self.now c.requires.holds.flow pos c.args.source c.index_mut.result.now c.first_of.new.stream c.in_ok-tuple.tuple c.requires.next at c.in_ok-tuple.ensures.ok).1 in
     omega (arith, low)
 
 pub send_one-requires-clause-whole : goal.send_one-requires-clause-whole

@@ -10,12 +10,12 @@ returns-in-None-clause-ok g c =
     let end = c.end_step.ensures in
     λ n. record {
       moves = record {
-        stepped = end.ok (known (g.D.PageDisk.log c.args.disk.now)) c.args.events.now.items c.requires.together;
+        stepped = end.stepped (known (g.D.PageDisk.log c.args.disk.now)) c.args.events.now.items c.requires.holds.together;
         keeps = record { faults = le_refl _; later = IsLater-refl _; stay = prefix_itself _ };
         touches = end.touches;
         cost = ap (λ k. n + k) (sym end.taken);
       };
-      lowers = end.measure;
+      lowers = end.lowers;
       took = end.took;
       waits = tt;
     }
@@ -27,14 +27,11 @@ pub returns-in_err-release_step-in-Some-clause-err : goal.returns-in_err-release
 returns-in_err-release_step-in-Some-clause-err g c =
     let p = err_from_is_err_and c.from_residual.result c.from_residual.ensures.1 in rw (p.1, p.2) c.in_err-release_step-in-Some.ensures.err
 
-pub release_step-requires-clause-flow : goal.release_step-requires-clause-flow
-release_step-requires-clause-flow g c = c.requires.flow
-
-pub release_step-requires-clause-together : goal.release_step-requires-clause-together
-release_step-requires-clause-together g c = c.requires.together
+pub release_step-requires-clause-holds : goal.release_step-requires-clause-holds
+release_step-requires-clause-holds g c = c.requires.holds
 
 pub end_step-requires-clause-flow : goal.end_step-requires-clause-flow
-end_step-requires-clause-flow g c = c.requires.flow
+end_step-requires-clause-flow g c = c.requires.holds.flow
 
 pub end_step-requires-clause-running : goal.end_step-requires-clause-running
 end_step-requires-clause-running g c = c.requires.running

@@ -32,3 +32,8 @@ returns-clause-ok g c = train-whole _ c.args.actor c.steps.fed c.args.train _ _ 
 
 pub one_step-requires-clause-actor_in : goal.one_step-requires-clause-actor_in
 one_step-requires-clause-actor_in g c = omega (arith, c.requires.actor_in, c.steps.invariant.under.moves.stepped.seats)
+
+pub one_step-requires-clause-holds : goal.one_step-requires-clause-holds
+one_step-requires-clause-holds g c =
+    let moves = c.steps.invariant.under.moves in
+    record { flow = moves.stepped.flow_after; together = moves.stepped.together }

@@ -25,10 +25,15 @@ returns-clause-came g c = λ start came.
 pub returns-in_err-pass_on-clause-came : goal.returns-in_err-pass_on-clause-came
 returns-in_err-pass_on-clause-came g c = λ start came.
     came-fault g.D.PageDisk.log g.D.PageDisk.faults start c.args.self.now came c.requires.is_ready c.pass_on.new.queues c.pass_on.new.disk c.pass_on.new.events c.in_err-pass_on.ensures.faults c.in_err-pass_on.ensures.later
-    c.pass_on.new.failed c.in_err-pass_on.ensures.err c.in_err-pass_on.ensures.cause c.in_err-pass_on.ensures.honest c.in_err-pass_on.ensures.unsent
+    c.pass_on.new.failed c.in_err-pass_on.ensures.err c.in_err-pass_on.ensures.fails.cause c.in_err-pass_on.ensures.fails.honest c.in_err-pass_on.ensures.unsent
 
-pub pass_on-requires-clause-there : goal.pass_on-requires-clause-there
-pass_on-requires-clause-there g c = λ place arc is. c.requires.is_ready.there c.args.port place arc is
-
-pub pass_on-requires-clause-whole : goal.pass_on-requires-clause-whole
-pass_on-requires-clause-whole g c = c.requires.is_ready.whole
+pub pass_on-requires-clause-gives : goal.pass_on-requires-clause-gives
+pass_on-requires-clause-gives g c =
+    let opened = c.requires.is_ready in
+    record {
+      within = opened.within;
+      shown = λ past. opened.shown past c.args.port;
+      there = opened.there c.args.port;
+      together = opened.together;
+      whole = opened.whole;
+    }
