@@ -1,9 +1,9 @@
 -- The elements of a tagged list: its tuples, each with the side that it comes at: words of the proofs alone.
 use Rattle.std.specs.List.{AllByRecursion}
-use Rattle.sq_oper.specs.declared.tally.Moment.TheVariants.{At, Start}
+use Rattle.sq_oper.specs.declared.tally.Position.TheVariants.{At, Start}
 use Rattle.sq_join.specs.Elements.{Element}
 use Rattle.std.specs.Prelude.{List, ℕ, [], ◌≡◌, ◌⊎◌, ◌≤◌, ◌∷◌}
-use Rattle.sq_oper.specs.declared.tally.Moment.{Moment}
+use Rattle.sq_oper.specs.declared.tally.Position.{Position}
 
 -- each is of one of two sides
 abbrev pub TwoSides : List Element → Type 0
@@ -15,6 +15,6 @@ InTurn time side [] = Unit {0}
 InTurn time side (e ∷ es) = ((time ≤ (e.1).time) × (time ≡ (e.1).time → side ≤ e.0)) × InTurn (e.1).time e.0 es
 
 -- the port of the last item, 0 before the first
-abbrev pub moment_port : Moment → ℕ
-moment_port Start = 0
-moment_port (At time port marked) = port
+abbrev pub position_port : Position → ℕ
+position_port Start = 0
+position_port (At time port marked) = port

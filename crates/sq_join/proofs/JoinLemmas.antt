@@ -16,8 +16,8 @@ use Rattle.sq_item.specs.Things.{Thing, mark_part, body_part}
 use Rattle.sq_lists.specs.Pairs.{pairs_from, join_list_of}
 use Rattle.sq_lists.specs.Sides.{held_on_sides, recent, pair_at, pairs_with, against, left_with, right_with, AllNear}
 use Rattle.sq_lists.proofs.WindowLemmas.{lower}
-use Rattle.sq_oper.specs.declared.tally.Moment.{Moment}
-use Rattle.sq_oper.specs.declared.tally.Moment.TheVariants.{Start}
+use Rattle.sq_oper.specs.declared.tally.Position.{Position}
+use Rattle.sq_oper.specs.declared.tally.Position.TheVariants.{Start}
 use Rattle.sq_oper.specs.Entries.{Entry, at_port, entries}
 use Rattle.sq_oper.specs.Outflow.{ThingsUpTo}
 use Rattle.sq_oper.specs.Order.{time_of, unmarked, IsFuture}
@@ -88,7 +88,7 @@ times-with on side x (y ∷ ys) early =
 
 -- ---- a tuple is fed
 
-module _ (size : ℕ) (on : Expr) (columns : Columns) (left right : List Tuple) (place : Moment) (port : ℕ) (item : Item) (fields : List Value) (is : item.body ≡ Some fields)
+module _ (size : ℕ) (on : Expr) (columns : Columns) (left right : List Tuple) (place : Position) (port : ℕ) (item : Item) (fields : List Value) (is : item.body ≡ Some fields)
     (sound : IsSoundItem item) (may : IsFuture unmarked (join_fits columns) place (entries port item))
     (held-left : IsSide (most_at columns 0) (time_of place) left) (held-right : IsSide (most_at columns 1) (time_of place) right) where
   abbrev fed : Tuple

@@ -11,7 +11,8 @@ use Rattle.sq_expr.specs.Trees.{Expr}
 use Rattle.sq_expr.specs.Expressions.{pair_of}
 use Rattle.sq_aggfn.specs.Groups.{group_of}
 use Rattle.sq_expr.specs.Apart.{lacks_one, numbers_for, PartsAgree}
-use Rattle.sq_join.specs.EqualFields.{Equates, EquatesCodes, EquatesKeys}
+use Rattle.sq_join.specs.EqualFields.{EquatesCodes, EquatesKeys}
+use Rattle.sq_pairs.specs.EqualPlaces.{Equates}
 use Rattle.sq_join.specs.Codes.{code_by, code_with, code_with_all, key_code, has_null, lone_number}
 
 code-by-some : (o : Option ℤ) (key : List Value) → has_null key ≡ false → code_by o key ≡ None → ⊥

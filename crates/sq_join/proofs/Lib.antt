@@ -1,5 +1,4 @@
 pub mod KeyLemmas
-pub mod EqualLemmas
 pub mod IndexLemmas
 pub mod TurnLemmas
 pub mod JoinLemmas

@@ -9,16 +9,16 @@ use Rattle.sq_value.specs.Values.{Columns}
 use Rattle.sq_item.specs.Things.{Content, Sign, Body}
 use Rattle.sq_lists.specs.Merge.{tuple_earlier, merge_tuples}
 use Rattle.sq_lists.specs.Sides.{on_side}
-use Rattle.sq_oper.specs.declared.tally.Moment.{Moment}
-use Rattle.sq_oper.specs.declared.tally.Moment.TheVariants.{Start, At}
+use Rattle.sq_oper.specs.declared.tally.Position.{Position}
+use Rattle.sq_oper.specs.declared.tally.Position.TheVariants.{Start, At}
 use Rattle.sq_oper.specs.Entries.{Entry}
-use Rattle.sq_oper.specs.Order.{may_come, time_of, moment_after, content_fits, InOrder, AllFit, unmarked, IsFuture}
+use Rattle.sq_oper.specs.Order.{may_come, time_of, position_after, content_fits, InOrder, AllFit, unmarked, IsFuture}
 use Rattle.sq_oper.specs.Streams.{tuple_in}
 use Rattle.sq_oper.proofs.StreamLemmas.{may-come-time}
 use Rattle.sq_oper.proofs.FedLemmas.{tuple_entry}
 use Rattle.sq_join.specs.Elements.{Element, elements_of, side_of}
 use Rattle.sq_join.specs.Sides.{most_at, join_fits}
-use Rattle.sq_join.proofs.ElementWords.{TwoSides, InTurn, moment_port}
+use Rattle.sq_join.proofs.ElementWords.{TwoSides, InTurn, position_port}
 use Rattle.sq_words.proofs.Alls.{all_weaker}
 
 -- ---- the merge
@@ -125,25 +125,25 @@ at-once t u p q false true true e e' e'' h same = grind (arith, tests)
 at-once t u p q false true false e e' e'' h same = cc
 at-once t u p q false false d e e' e'' h same = cc
 
-turn-of : (place : Moment) (port time : ℕ) (fields : List Value) → IsTrue (may_come place (tuple_entry port time fields))
-    → (time_of place ≤ time) × (time_of place ≡ time → moment_port place ≤ port)
+turn-of : (place : Position) (port time : ℕ) (fields : List Value) → IsTrue (may_come place (tuple_entry port time fields))
+    → (time_of place ≤ time) × (time_of place ≡ time → position_port place ≤ port)
 turn-of Start port time fields h = (zero-le, (λ same. zero-le))
 turn-of (At t p m) port time fields h =
     (may-come-time (At t p m) (tuple_entry port time fields) h, (λ same. at-once t time p port (nat_lt t time) (t == time) (nat_le p port) refl refl refl h same))
 
-load-turn : (fits : ℕ → List Value → Bool) (place : Moment) (port time : ℕ) (content : Content) (es : List Element)
+load-turn : (fits : ℕ → List Value → Bool) (place : Position) (port time : ℕ) (content : Content) (es : List Element)
     → IsTrue (may_come place (record { port = port; thing = record { time = time; content = content } })) → IsTrue (content_fits unmarked fits port content) → InTurn time port es
-    → InTurn (time_of place) (moment_port place) (on_side port (tuple_in time content) ++ es)
+    → InTurn (time_of place) (position_port place) (on_side port (tuple_in time content) ++ es)
 load-turn fits place port time (Sign m) es may fit turn = absurd (let e : ⊥ = cc in e)
 load-turn fits place port time (Body fields) es may fit turn = (turn-of place port time fields may, turn)
 
-elements-turn : (fits : ℕ → List Value → Bool) (place : Moment) (future : List Entry) → InOrder place future → AllFit unmarked fits future → InTurn (time_of place) (moment_port place) (elements_of future)
+elements-turn : (fits : ℕ → List Value → Bool) (place : Position) (future : List Entry) → InOrder place future → AllFit unmarked fits future → InTurn (time_of place) (position_port place) (elements_of future)
 elements-turn fits place [] order fit = tt
 elements-turn fits place (e ∷ es) order fit =
-    load-turn fits place e.port e.thing.time e.thing.content (elements_of es) order.0 fit.0 (elements-turn fits (moment_after place e) es order.1 fit.1)
+    load-turn fits place e.port e.thing.time e.thing.content (elements_of es) order.0 fit.0 (elements-turn fits (position_after place e) es order.1 fit.1)
 
 -- the elements of a future come in turn
-pub future-turn : (fits : ℕ → List Value → Bool) (place : Moment) (future : List Entry) → IsFuture unmarked fits place future → InTurn (time_of place) (moment_port place) (elements_of future)
+pub future-turn : (fits : ℕ → List Value → Bool) (place : Position) (future : List Entry) → IsFuture unmarked fits place future → InTurn (time_of place) (position_port place) (elements_of future)
 future-turn fits place future h = elements-turn fits place future h.in_order h.fitting
 
 which-side : (port : ℕ) (b c : Bool) → nat_le port 1 ≡ b → IsTrue (b && c) → (port ≡ 0) ⊎ (port ≡ 1)
@@ -164,5 +164,5 @@ two-sides : (columns : Columns) (future : List Entry) → AllFit unmarked (join_
 two-sides columns [] fit = tt
 two-sides columns (e ∷ es) fit = two-load columns e.port e.thing.time e.thing.content (elements_of es) fit.0 (two-sides columns es fit.1)
 
-pub future-sides : (columns : Columns) (place : Moment) (future : List Entry) → IsFuture unmarked (join_fits columns) place future → TwoSides (elements_of future)
+pub future-sides : (columns : Columns) (place : Position) (future : List Entry) → IsFuture unmarked (join_fits columns) place future → TwoSides (elements_of future)
 future-sides columns place future h = two-sides columns future h.fitting

@@ -1,16 +1,11 @@
 -- What a predicate asks to be equal.
 use Rattle.std.specs.Prelude.{◌≡◌, ℕ, true, false, List, length, None}
 use Rattle.sq_value.specs.declared.Tuple.{Tuple}
-use Rattle.sq_value.specs.Values.{field, is_null}
 use Rattle.sq_expr.specs.Trees.{Expr}
 use Rattle.sq_expr.specs.Expressions.{holds_of, pair_of}
 use Rattle.sq_aggfn.specs.Groups.{group_of}
 use Rattle.sq_join.specs.declared.keys.Keys.{Keys}
 use Rattle.sq_join.specs.Codes.{tuple_code, has_null}
-
--- the values at two places are the same and not Null in each tuple of which the predicate is true
-abbrev pub Equates : Expr → ℕ × ℕ → Type 0
-Equates on places = (t : Tuple) → holds_of on t ≡ true → (field t.fields places.0 ≡ field t.fields places.1) × (is_null (field t.fields places.0) ≡ false)
 
 -- in each pair of which the predicate is true the values at the left and the right places are the same, and none is Null
 abbrev pub EquatesKeys : Expr → ℕ → List ℕ → List ℕ → Type 0

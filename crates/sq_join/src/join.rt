@@ -5,7 +5,7 @@ ghost use Rattle.sq_value.specs.declared.Value.{Value};
 ghost use Rattle.sq_item.specs.Things.{Thing};
 ghost use Rattle.sq_lists.specs.Pairs.{join_list_of};
 ghost use Rattle.sq_lists.specs.Sides.{AllNear};
-ghost use Rattle.sq_oper.specs.declared.tally.Moment.{Moment};
+ghost use Rattle.sq_oper.specs.declared.tally.Position.{Position};
 ghost use Rattle.sq_oper.specs.Entries.{Entry};
 ghost use Rattle.sq_oper.specs.Order.{IsFuture, time_of};
 ghost use Rattle.sq_oper.specs.Streams.{things, at_zero};
@@ -13,14 +13,14 @@ ghost use Rattle.sq_join.specs.Elements.{side_of, elements_of};
 ghost use Rattle.sq_join.specs.Indexes.{MayIndex};
 ghost use Rattle.sq_join.specs.Sides.{join_rest, join_fits, most_at, IsSide};
 
-use crate::condition::Condition;
 use crate::side_indexes::SideIndexes;
 use crate::sides::{let_go, take};
 use sq_expr::Typed;
 use sq_item::Item;
 use sq_lists::Sides;
-use sq_oper::{Decision, Moment, Operator, Outlet, Tally};
+use sq_oper::{Decision, Operator, Outlet, Position, Tally};
 use sq_outside::Steps;
+use sq_pairs::Condition;
 use sq_road::Levels;
 use sq_value::{Tuple, Value};
 use std::alloc::{AllocError, Global};
@@ -43,7 +43,7 @@ impl JoinBox {
     /// whose names begin with `l_`, and at port 1 each with which a pair has 16 values at most.
     pub fn new(alloc: Global, size: u64, on: Typed) -> JoinBox
         ensures list { (table : ℕ → ℕ → ℕ) (future : List Entry) (q : ℕ)
-            → IsFuture (⟦<JoinBox as Operator>⟧.takes_marks result) (⟦<JoinBox as Operator>⟧.fits result) Moment.Start future
+            → IsFuture (⟦<JoinBox as Operator>⟧.takes_marks result) (⟦<JoinBox as Operator>⟧.fits result) Position.Start future
             → ⟦<JoinBox as Operator>⟧.rest result table future q
             ≡ at_zero q (things (join_list_of size on.tree (side_of 0 (elements_of future)) (side_of 1 (elements_of future)))) }
         ensures none_lost { (future : List Entry) → ⟦<JoinBox as Operator>⟧.lost result future ≡ 0 }
@@ -52,7 +52,7 @@ impl JoinBox {
         ensures reads { (epoch : ℕ) → ⟦<JoinBox as Operator>⟧.reads result epoch ≡ true }
         ensures holds { (time : ℕ) (things : List Thing) → ⟦<JoinBox as Operator>⟧.may_hold result time things → things ≡ [] }
         ensures decides { (table : ℕ → ℕ → ℕ) (future : List Entry) → ⟦<JoinBox as Operator>⟧.decides result table future ≡ [] }
-        ensures start { (⟦<JoinBox as Operator>⟧.place result ≡ Moment.Start) × (⟦<JoinBox as Operator>⟧.taken result ≡ 0) }
+        ensures start { (⟦<JoinBox as Operator>⟧.place result ≡ Position.Start) × (⟦<JoinBox as Operator>⟧.taken result ≡ 0) }
         ensures valid { ⟦<JoinBox as Operator>⟧.valid result × IsTrue (⟦<JoinBox as Operator>⟧.running result) }
     {
         let on = Condition::of(alloc, on);

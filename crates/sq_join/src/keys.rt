@@ -5,12 +5,13 @@ ghost use Rattle.sq_value.specs.Values.{field};
 ghost use Rattle.sq_expr.specs.Apart.{numbers_for};
 ghost use Rattle.sq_expr.specs.Trees.{Expr};
 ghost use Rattle.sq_aggfn.specs.Groups.{group_of};
-ghost use Rattle.sq_join.specs.EqualFields.{AreKeys, Equates};
+ghost use Rattle.sq_join.specs.EqualFields.{AreKeys};
+ghost use Rattle.sq_pairs.specs.EqualPlaces.{Equates};
 ghost use Rattle.sq_join.specs.Codes.{tuple_code, code_with_all, key_code, has_null, lone_number};
 
-use crate::condition::Condition;
 use sq_expr::Part;
 use sq_groups::Picked;
+use sq_pairs::Condition;
 use sq_value::{Tuple, Value};
 use std::alloc::{AllocError, Global};
 use std::hash::{FoldHasher, Hash, Hasher};

@@ -1,56 +1,22 @@
 //! Join on whole lists.
 
-ghost use Rattle.std.specs.Prelude.{◌≡◌, ◌++◌, ◌∷◌, [], IfOk, OnOk};
+ghost use Rattle.std.specs.Prelude.{◌≡◌, ◌++◌, IfOk, OnOk};
 ghost use Rattle.sq_lists.specs.Pairs.{join_list_of};
 ghost use Rattle.sq_lists.specs.Sides.{against, pairs_with};
 ghost use Rattle.sq_join.specs.Indexes.{HasPassing, IsIndex, MayIndex};
 
-use crate::condition::Condition;
 use crate::index::Index;
 use crate::side_indexes::{Candidates, SideIndexes};
 use crate::sides::{let_go, push_last};
 use sq_expr::{Typed, copy_typed};
 use sq_lists::{Sides, merge_two};
+use sq_pairs::{Condition, push_pair, push_pairs};
 use sq_value::Tuple;
 use std::alloc::{AllocError, Global};
 use std::collections::VecDeque;
 
-/// Puts the pair of a tuple with one of the other side behind the others, if it passes.
-#[inline(always)]
-fn push_pair(
-    alloc: Global,
-    on: &Condition,
-    side: u32,
-    x: &Tuple,
-    other: &Tuple,
-    out: &mut Vec<Tuple>,
-) -> Result<(), AllocError>
-    ensures { OnOk result (out.new.items ≡ out.old.items ++ pairs_with on.now.tree side x.now (other.now ∷ [])) }
-{
-    if let Some(pair) = on.passing_pair(alloc, side, x, other)? {
-        out.push(pair)?;
-    }
-    Ok(())
-}
-
-/// Puts the pairs of a tuple with those of the other side, in their order, behind the others.
-fn push_pairs(
-    on: &Condition,
-    side: u32,
-    x: &Tuple,
-    others: &VecDeque<Tuple>,
-    out: &mut Vec<Tuple>,
-) -> Result<(), AllocError>
-    ensures { OnOk result (out.new.items ≡ out.old.items ++ pairs_with on.now.tree side x.now others.now.items) }
-{
-    let alloc = *others.allocator();
-    for i in 0..others.len() {
-        push_pair(alloc, on, side, x, &others[i], out)?;
-    }
-    Ok(())
-}
-
-/// The same by those that stand in a row of their index: with the others none passes.
+/// Puts the pairs of a tuple with those of the other side that stand in a row of their index, in their order, behind the
+/// others: with those that stand in no such row none passes.
 fn push_pairs_in_row(
     on: &Condition,
     side: u32,

@@ -6,11 +6,11 @@ ghost use Rattle.sq_expr.specs.Trees.{Expr};
 ghost use Rattle.sq_lists.specs.Sides.{against, left_with, recent, right_with};
 ghost use Rattle.sq_join.specs.Indexes.{index_against, index_of, AreIndexes, AreOf, AreCandidates, IsIndex, IsOfSameKeys};
 
-use crate::condition::Condition;
 use crate::index::Index;
 use crate::keys::{Keys, keys_of};
 use sq_expr::EqualParts;
 use sq_lists::{Sides, begins_past};
+use sq_pairs::Condition;
 use sq_value::Tuple;
 use std::alloc::Global;
 use std::collections::VecDeque;

@@ -9,12 +9,12 @@ ghost use Rattle.sq_join.specs.Indexes.{AreOf, HasPassing, IsIndex, MayIndex};
 ghost use Rattle.sq_oper.specs.Outflow.{given, ItemsSound};
 ghost use Rattle.sq_oper.specs.Streams.{IsSoundTuple, things, at_zero};
 
-use crate::condition::Condition;
 use crate::index::Index;
 use crate::side_indexes::{Candidates, SideIndexes};
 use sq_item::{Body, Item, Sign};
 use sq_lists::Sides;
 use sq_oper::Outlet;
+use sq_pairs::Condition;
 use sq_value::Tuple;
 use std::alloc::{AllocError, Global};
 use std::collections::VecDeque;

@@ -16,7 +16,7 @@ use Rattle.sq_net.specs.declared.Output.{Output}
 use Rattle.sq_net.specs.declared.Source.{Source}
 use Rattle.sq_teller.specs.declared.KeyWhy.TheVariants as why
 use Rattle.sq_keys.specs.declared.Pair.{Pair}
-use Rattle.sq_teller.specs.declared.Status.TheVariants as status
+use Rattle.sq_teller.specs.declared.Ending.TheVariants as status
 use Rattle.sq_keys.specs.Words.{asked_in}
 use Rattle.sq_keys.specs.Keys.{cuts_asked}
 use Rattle.sq_keys.specs.Lines.{is_lost, keys_text}

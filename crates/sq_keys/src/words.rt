@@ -3,8 +3,8 @@ ghost use Rattle.std.specs.Prelude.{◌≡◌, ◌≤◌, Err, IfOk, None, Some,
 ghost use Rattle.std.specs.String.{string_bytes};
 ghost use Rattle.sq_keys.specs.Words.{asked_behind, asked_in, pair_in, pairs_in, whole_pair};
 
-use crate::{Asked, Pair};
-use sq_teller::{WordsErr, may_name};
+use crate::{KeysAsked, Pair};
+use sq_command::{WordsErr, may_name};
 use sq_value::{ListOf, Name, same_text};
 use std::alloc::{AllocError, Global};
 
@@ -60,7 +60,7 @@ fn pairs_in(alloc: Global, words: &[String]) -> Result<Vec<Pair>, WordsErr>
 }
 
 // What words behind `--on-time` ask for, or all words where it doesn't stand before them.
-fn asked_behind(alloc: Global, on_time: bool, words: &[String]) -> Result<Asked, WordsErr>
+fn asked_behind(alloc: Global, on_time: bool, words: &[String]) -> Result<KeysAsked, WordsErr>
     ensures asked { IfOk result (λ a. asked_behind on_time (map string_bytes words.now) ≡ Some a) }
     ensures few { IfOk result (λ a. length a.pairs ≤ 8) }
     ensures usage { result ≡ Err WordsErr.Usage → asked_behind on_time (map string_bytes words.now) ≡ None }
@@ -76,7 +76,7 @@ fn asked_behind(alloc: Global, on_time: bool, words: &[String]) -> Result<Asked,
         Err(e) => return Err(e),
     };
     match Name::new(alloc, net.as_str()) {
-        Ok(net) => Ok(Asked {
+        Ok(net) => Ok(KeysAsked {
             on_time,
             net,
             pairs: ListOf::new(pairs),
@@ -87,7 +87,7 @@ fn asked_behind(alloc: Global, on_time: bool, words: &[String]) -> Result<Asked,
 
 /// What words ask for: `[--on-time] NET SOURCE=FIELD..`, with one pair to eight. The network's name isn't empty and doesn't begin
 /// with a dash, and neither side of a pair is empty.
-pub fn read_words(alloc: Global, words: &Vec<String>) -> Result<Asked, WordsErr>
+pub fn read_words(alloc: Global, words: &Vec<String>) -> Result<KeysAsked, WordsErr>
     ensures asked { IfOk result (λ a. asked_in (map string_bytes words.now.items) ≡ Some a) }
     ensures few { IfOk result (λ a. length a.pairs ≤ 8) }
     ensures usage { result ≡ Err WordsErr.Usage → asked_in (map string_bytes words.now.items) ≡ None }

@@ -1,20 +1,12 @@
 -- Counts of epochs, and what lies between two epochs.
-use Rattle.std.proofs.Common.{◌≡◌, ℕ, ◌+◌, ◌/◌, ◌≤◌, ◌<◌, eqb, Bool, true, false, cond, ◌&&◌, List, [], ◌∷◌, map, length, drop, get_or, refl, ap, sym, ◌∙◌, arith}
+use Rattle.std.proofs.Common.{◌≡◌, ℕ, ◌+◌, ◌/◌, ◌≤◌, ◌<◌, eqb, Bool, true, false, cond, ◌&&◌, List, ◌∷◌, map, length, drop, get_or, refl, ap, sym, ◌∙◌, arith}
 use Rattle.std.proofs.lemmas.Bool.Decides.{nat_tests}
 use Rattle.std.proofs.lemmas.List.{drop_more}
-use Rattle.std.proofs.lemmas.List.Sums.{count_by-le-length, sum_by-cons}
+use Rattle.std.proofs.lemmas.List.Sums.{sum_by-cons}
 use Rattle.sq_value.specs.declared.Tuple.{Tuple}
-use Rattle.sq_plan.specs.Flows.{AreCounts}
 use Rattle.sq_plan.specs.PlanRows.{is_quiet}
-use Rattle.sq_model.specs.GivenLevels.{counted, AreFew}
+use Rattle.sq_model.specs.GivenLevels.{counted}
 use Rattle.sq_model.specs.Epochs.{count_in}
-
-pub few_counts : (epoch e : ℕ) (sources : List (List Tuple)) → AreFew sources → AreCounts (counted epoch sources e)
-few_counts epoch e [] h = tt
-few_counts epoch e (xs ∷ sources) h =
-    let least = count_by-le-length (λ (x : Tuple). eqb (x.time / epoch) e) xs in
-    let few = h.0 in
-    (omega (arith, least, few), few_counts epoch e sources h.1)
 
 other : (a b : ℕ) → a < b → eqb b a ≡ false
 other a b h = grind (arith, nat_tests)

@@ -17,7 +17,6 @@ pub mod StreamTypes
 pub mod ArcCounts
 pub mod BatchLemmas
 pub mod EpochLemmas
-pub mod FirstLemmas
 pub mod ShedLemmas
 pub mod WorkLemmas
 pub mod MeasuredLemmas

@@ -26,7 +26,7 @@ use Rattle.sq_model.proofs.Alls.{All-append, All-kept}
 use Rattle.sq_words.proofs.Lists.{contains_filter}
 use Rattle.sq_words.proofs.Alls.{all_weaker}
 use Rattle.sq_words.proofs.Numbers.{ltb_not}
-use Rattle.sq_place.specs.Numbers.{lcm_of_all}
+use Rattle.sq_seen.specs.Numbers.{lcm_of_all}
 
 flat-all : {X Y : Type 0} (P : Y → Type 0) (f : X → List Y) (xs : List X) → AllByRecursion (λ x. AllByRecursion P (f x)) xs → AllByRecursion P (flat_map f xs)
 flat-all P f [] all = tt

@@ -62,7 +62,3 @@ pub record LevelsAre (table : LevelTable) (r : Replay) : Type 0 where
 -- how many tuples of each source arrive in an epoch of this length
 abbrev pub counted : ℕ → List (List Tuple) → ℕ → List ℕ
 counted epoch sources e = map (count_by (λ x. x.time / epoch == e)) sources
-
--- a million at most
-abbrev pub AreFew : List (List Tuple) → Type 0
-AreFew sources = AllByRecursion (λ xs. length xs ≤ 1000000) sources

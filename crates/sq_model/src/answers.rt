@@ -1,25 +1,24 @@
 // What is dropped, shown and fed in a replay.
-ghost use Rattle.std.specs.Prelude.{◌≡◌, ◌+◌, ◌<◌, ◌^◌, ◌==◌, map, length, Some, slice_get, IfOk, IfSome};
-ghost use Rattle.std.specs.List.{All, list_any, sum_by};
-ghost use Rattle.sq_words.specs.Lists.{numbers_to, contains_number};
+ghost use Rattle.std.specs.Prelude.{◌≡◌, ◌+◌, ◌<◌, ◌^◌, map, length, Some, slice_get, IfOk};
+ghost use Rattle.std.specs.List.{All, sum_by};
+ghost use Rattle.sq_words.specs.Lists.{numbers_to};
 ghost use Rattle.sq_value.specs.Values.{IsStream};
 ghost use Rattle.sq_graph.specs.Wires.{output_arc_at};
+ghost use Rattle.sq_place.specs.declared.DropPoint.{DropPoint};
 ghost use Rattle.sq_net.specs.SoundNetworks.{IsSound};
 ghost use Rattle.sq_points.specs.Limits.{KeepsDropLimits};
 ghost use Rattle.sq_points.specs.Points.{points_of};
 ghost use Rattle.sq_model.specs.Shedding.{Replay, record_of, answer_of};
 ghost use Rattle.sq_model.specs.KeptTuples.{kept_of, work_of};
-ghost use Rattle.sq_model.specs.GivenLevels.{AreFew};
 ghost use Rattle.sq_model.specs.KnownStreams.{stream_at_place, IsSafe, IsKnown};
-ghost use Rattle.sq_points.specs.Above.{first_drop, distance_of, found_at};
 
 use crate::boxes::push_copies;
 use crate::drops::{dropped_batches, kept_number, shown_tuples};
 use crate::known::{Known, known_of};
 use sq_graph::output_arc;
 use sq_net::Network;
-use sq_place::DropPoint;
 use sq_plan::Capacities;
+use sq_points::{above_arc, above_output, distance_below};
 use sq_value::Tuple;
 use std::alloc::{AllocError, Global};
 
@@ -32,26 +31,6 @@ fn dropped_in(alloc: Global, known: &Known, w: u32) -> Result<Vec<u64>, AllocErr
     let p = &known.points[w as usize];
     let full = known.at_place(p.at);
     dropped_batches(alloc, full, &known.levels, known.seed, w, p)
-}
-
-fn is_above(p: &DropPoint, output: u32) -> bool
-    ensures { result ≡ contains_number p.now.outputs output }
-{
-    p.outputs.as_slice().contains(&output)
-}
-
-// The number of the first drop below which an output lies.
-fn drop_above(points: &[DropPoint], output: u32) -> Option<u32>
-    requires { length points.now < 2 ^ 32 }
-    ensures first { first_drop (λ p. contains_number p.outputs output) 0 points.now ≡ found_at result points.now }
-    ensures inside { IfSome result (λ w. w < length points.now) }
-{
-    for (w, p) in points.iter().enumerate() {
-        if is_above(p, output) {
-            return Some(w as u32);
-        }
-    }
-    None
 }
 
 fn copy_of(alloc: Global, tuples: &[Tuple]) -> Result<Vec<Tuple>, AllocError>
@@ -68,46 +47,15 @@ fn answer_in(alloc: Global, known: &Known, output: u32, arc: u32) -> Result<Vec<
 {
     let _epoch = known.levels.epoch();
     let full = known.at_arc(arc);
-    match drop_above(&known.points, output) {
+    match above_output(&known.points, output) {
         None => copy_of(alloc, full),
         Some(w) => {
-            let record = dropped_in(alloc, known, w)?;
+            let record = dropped_in(alloc, known, w as u32)?;
             let mut shown = Vec::new(alloc);
-            shown_tuples(full, &known.points[w as usize], &record, &mut shown)?;
+            shown_tuples(full, &known.points[w], &record, &mut shown)?;
             Ok(shown)
         }
     }
-}
-
-fn reaches(p: &DropPoint, arc: u32) -> bool
-    ensures { result ≡ list_any (λ d. d.0 == arc) p.now.reach }
-{
-    p.reach.as_slice().iter().any(|d| d.0 == arc)
-}
-
-// The number of the first drop that an arc lies below.
-fn drop_over(points: &[DropPoint], arc: u32) -> Option<u32>
-    requires { length points.now < 2 ^ 32 }
-    ensures first { first_drop (λ p. list_any (λ d. d.0 == arc) p.reach) 0 points.now ≡ found_at result points.now }
-    ensures inside { IfSome result (λ w. w < length points.now) }
-{
-    for (w, p) in points.iter().enumerate() {
-        if reaches(p, arc) {
-            return Some(w as u32);
-        }
-    }
-    None
-}
-
-fn distance(p: &DropPoint, arc: u32) -> u64
-    ensures { result ≡ distance_of p.now arc }
-{
-    for d in p.reach.as_slice() {
-        if d.0 == arc {
-            return d.1;
-        }
-    }
-    0
 }
 
 // How many tuples of an arc are kept.
@@ -117,12 +65,12 @@ fn kept_in(known: &Known, arc: u32) -> u64
 {
     let _epoch = known.levels.epoch();
     let full = known.at_arc(arc);
-    match drop_over(&known.points, arc) {
+    match above_arc(&known.points, arc) {
         None => full.len() as u64,
         Some(w) => {
-            let p = &known.points[w as usize];
-            let distance = distance(p, arc);
-            kept_number(full, &known.levels, known.seed, w, p, distance)
+            let p = &known.points[w];
+            let distance = distance_below(p, arc);
+            kept_number(full, &known.levels, known.seed, w as u32, p, distance)
         }
     }
 }
@@ -186,7 +134,6 @@ pub fn dropped(
     requires limits { KeepsDropLimits n.now }
     requires lists { length sources.now ≡ length n.now.sources }
     requires streams { All IsStream (map (λ t. t.items) sources.now) }
-    requires few { AreFew (map (λ t. t.items) sources.now) }
     requires there { w < length (points_of n.now) }
     ensures { IfOk result (λ v. (p : DropPoint) → slice_get (points_of n.now) w ≡ Some p
         → v.items ≡ record_of (record { network = n.now; sources = map (λ t. t.items) sources.now; entries = c.now; seed = seed }) w p) }
@@ -208,7 +155,6 @@ pub fn answer(
     requires limits { KeepsDropLimits n.now }
     requires lists { length sources.now ≡ length n.now.sources }
     requires streams { All IsStream (map (λ t. t.items) sources.now) }
-    requires few { AreFew (map (λ t. t.items) sources.now) }
     requires there { output < length n.now.outputs }
     ensures { IfOk result (λ v. v.items ≡ answer_of (record { network = n.now; sources = map (λ t. t.items) sources.now; entries = c.now; seed = seed }) output) }
 {
@@ -228,7 +174,6 @@ pub fn work(
     requires limits { KeepsDropLimits n.now }
     requires lists { length sources.now ≡ length n.now.sources }
     requires streams { All IsStream (map (λ t. t.items) sources.now) }
-    requires few { AreFew (map (λ t. t.items) sources.now) }
     ensures { IfOk result (λ v. v ≡ work_of (record { network = n.now; sources = map (λ t. t.items) sources.now; entries = c.now; seed = seed })) }
 {
     let known = known_of(alloc, n, sources, c, seed)?;

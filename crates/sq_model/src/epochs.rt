@@ -2,7 +2,7 @@
 ghost use Rattle.std.specs.Prelude.{◌≡◌, ◌+◌, ◌/◌, ◌<◌, ◌≤◌, ◌^◌, map, IfOk};
 ghost use Rattle.sq_plan.specs.PlanRows.{level_for};
 ghost use Rattle.sq_road.specs.Levels.{AgreesWith};
-ghost use Rattle.sq_model.specs.GivenLevels.{counted, AreFew};
+ghost use Rattle.sq_model.specs.GivenLevels.{counted};
 ghost use Rattle.sq_model.specs.Epochs.{count_in, NoneBetween, QuietBetween};
 
 use sq_plan::{Planner, close_epochs};
@@ -84,7 +84,6 @@ pub(crate) fn levels_of(
     epoch: u64,
 ) -> Result<Levels, AllocError>
     requires epoch { 1 ≤ epoch }
-    requires few { AreFew (map (λ t. t.items) sources.now) }
     ensures epoch { IfOk result (λ l. l.epoch ≡ epoch) }
     ensures closed { IfOk result (λ l. l.closed ≡ 2 ^ 40 + 1) }
     ensures agrees { IfOk result (λ l. AgreesWith l (level_for planner.old (counted epoch (map (λ t. t.items) sources.now)))) }

@@ -5,7 +5,7 @@ ghost use Rattle.sq_value.specs.Values.{IsStream};
 ghost use Rattle.sq_net.specs.SoundNetworks.{IsSound};
 ghost use Rattle.sq_points.specs.Limits.{KeepsDropLimits};
 ghost use Rattle.sq_points.specs.Points.{points_of};
-ghost use Rattle.sq_model.specs.GivenLevels.{AreFew, LevelsAre};
+ghost use Rattle.sq_model.specs.GivenLevels.{LevelsAre};
 ghost use Rattle.sq_model.specs.KnownStreams.{arc_in, stream_at_place, IsSafe, IsKnown};
 
 use crate::arcs::{copies, streams_on_arcs};
@@ -13,9 +13,9 @@ use crate::boxes::stream_in;
 use crate::epochs::levels_of;
 use crate::streams::full_streams;
 use sq_net::Network;
-use sq_place::{DropAt, DropPoint, PlaceErr};
+use sq_place::{DropAt, DropPoint};
 use sq_plan::Capacities;
-use sq_points::{network_planner, network_points};
+use sq_points::{network_planner, points_in};
 use sq_road::Levels;
 use sq_value::Tuple;
 use std::alloc::{AllocError, Global};
@@ -30,19 +30,6 @@ pub(crate) struct Known {
     pub(crate) seed: u64,
 }
 
-fn points_in(alloc: Global, n: &Network) -> Result<Vec<DropPoint>, AllocError>
-    requires sound { IsSound n.now }
-    requires limits { KeepsDropLimits n.now }
-    ensures { IfOk result (λ v. v.items ≡ points_of n.now) }
-{
-    match network_points(alloc, n) {
-        Ok(points) => Ok(points),
-        Err(PlaceErr::Memory) => Err(AllocError),
-        Err(PlaceErr::LongBatch { .. }) => unreachable!(),
-        Err(PlaceErr::WideExtent { .. }) => unreachable!(),
-    }
-}
-
 fn levels_in(
     alloc: Global,
     n: &Network,
@@ -52,7 +39,6 @@ fn levels_in(
 ) -> Result<Levels, AllocError>
     requires sound { IsSound n.now }
     requires points { points.now.items ≡ points_of n.now }
-    requires few { AreFew (map (λ t. t.items) sources.now) }
     ensures closed { IfOk result (λ l. 2 ^ 40 / l.epoch < l.closed) }
     ensures levels { IfOk result (λ l. (seed : ℕ) → LevelsAre l (record { network = n.now; sources = map (λ t. t.items) sources.now; entries = c.now; seed = seed })) }
 {
@@ -73,7 +59,6 @@ pub(crate) fn known_of(
     requires limits { KeepsDropLimits n.now }
     requires lists { length sources.now ≡ length n.now.sources }
     requires streams { All IsStream (map (λ t. t.items) sources.now) }
-    requires few { AreFew (map (λ t. t.items) sources.now) }
     ensures safe { IfOk result IsSafe }
     ensures known { IfOk result (λ k. IsKnown k (record { network = n.now; sources = map (λ t. t.items) sources.now; entries = c.now; seed = seed })) }
 {

@@ -1,5 +1,5 @@
-//! The full answer of a network, and what is dropped, shown and fed where load is shed. It is plain and slow, for runs
-//! that need no engine, for audits and for tests.
+//! The full answer of a network, that at full load, and what is dropped, shown and fed where load is shed. It is plain and
+//! slow, for runs that need no engine, for audits and for tests.
 //!
 //! The full stream of a source is its recorded tuples, and that of a port is what its box gives for the full streams
 //! that it takes. The contracts promise exactly these lists, how many tuples each box is fed and how many of them come too

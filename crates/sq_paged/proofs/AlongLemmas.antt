@@ -6,7 +6,7 @@ use Rattle.std.proofs.lemmas.List.{append-nil}
 use Rattle.sq_item.specs.declared.Item.{Item}
 use Rattle.sq_link.specs.ChainLists.{StandsIn, Apart, head_or}
 use Rattle.sq_paged.specs.Faces.{last_node, count_along, kept_at, no_page}
-use Rattle.sq_paged.specs.declared.store.Kept.{Kept}
+use Rattle.sq_bring.specs.declared.bring.Kept.{Kept}
 
 -- items along nodes that have the same
 pub along-same : (f g : ℕ → List Item) (xs : List ℕ) → ((n : ℕ) → StandsIn n xs → g n ≡ f n) → flat_map g xs ≡ flat_map f xs

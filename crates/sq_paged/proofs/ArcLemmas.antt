@@ -6,10 +6,11 @@ use Rattle.sq_item.specs.declared.Item.{Item}
 use Rattle.sq_link.specs.ChainLists.{Chained, list_at, StandsIn, Apart}
 use Rattle.sq_outside.specs.Disks.{Pages}
 use Rattle.sq_pool.specs.Pools.{is_held}
-use Rattle.sq_paged.specs.KeptPages.{items_kept, Spares}
+use Rattle.sq_paged.specs.KeptPages.{items_kept}
+use Rattle.sq_bring.specs.Bringing.{Spares}
 use Rattle.sq_paged.specs.Faces.{nodes_on, items_along, IsKeptPage, PagedTogether, kept_at, count_along, last_node}
 use Rattle.sq_paged.specs.Steps.{AppendsAt, TakesAt, StartsAt, DropsAt, AddsItem, Removes}
-use Rattle.sq_paged.specs.declared.store.Kept.{Kept}
+use Rattle.sq_bring.specs.declared.bring.Kept.{Kept}
 use Rattle.sq_paged.specs.declared.Queues.{Queues}
 use Rattle.sq_paged.proofs.StoreLemmas.{spares-then}
 use Rattle.sq_paged.proofs.KeptLemmas.{appended-kept, taken-kept, taken-all, started-kept}

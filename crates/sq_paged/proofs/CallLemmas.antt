@@ -7,14 +7,14 @@ use Rattle.sq_link.specs.ChainLists.{Chained, StandsIn, head_or, list_at}
 use Rattle.sq_outside.specs.Disks.{DiskLog, Pages}
 use Rattle.sq_outside.specs.Faults.{Rose}
 use Rattle.sq_pool.specs.Pools.{bytes_in, is_held}
-use Rattle.sq_paged.specs.KeptPages.{IsCause, IsTold}
+use Rattle.sq_bring.specs.Bringing.{IsCause, IsTold}
 use Rattle.sq_paged.specs.Faces.{paged_face_at, nodes_on, kept_at, count_along, is_first, last_at, last_node, PagedTogether, IsPagedRefusal, SameTables}
 use Rattle.sq_paged.specs.Steps.{TakesAt}
 use Rattle.sq_paged.specs.declared.Lane.{Lane}
-use Rattle.sq_paged.specs.declared.store.Kept.{Kept}
+use Rattle.sq_bring.specs.declared.bring.Kept.{Kept}
 use Rattle.sq_paged.specs.declared.Queues.{Queues}
-use Rattle.sq_paged.specs.declared.store.QueueErr.{QueueErr}
-use Rattle.sq_paged.specs.declared.store.QueueErr.TheVariants as error
+use Rattle.sq_bring.specs.declared.bring.QueueErr.{QueueErr}
+use Rattle.sq_bring.specs.declared.bring.QueueErr.TheVariants as error
 use Rattle.sq_paged.proofs.AlongLemmas.{last-stands, head-is, kept-same}
 
 pub if-some : {A : Type 0} (P : A → Type 0) (o : Option A) → ((x : A) → o ≡ Some x → P x) → IfSome o P

@@ -8,9 +8,10 @@ use Rattle.sq_pool.specs.Slots.{digest_at as digest_at}
 use Rattle.sq_pool.specs.Pools.{Pooled, bytes_in, is_held, if_none, if_kept, HasDigest, Agree}
 use Rattle.sq_pool.specs.Trust.{Tells}
 use Rattle.sq_paged.specs.Fronts.{first_time}
-use Rattle.sq_paged.specs.KeptPages.{page_seen, FitsKept, Spares, Appended, Taken, Started, items_kept, items_of_bytes}
+use Rattle.sq_paged.specs.KeptPages.{Appended, Taken, Started, items_kept, items_of_bytes}
+use Rattle.sq_bring.specs.Bringing.{page_seen, FitsKept, Spares}
 use Rattle.sq_paged.specs.Faces.{IsKeptPage}
-use Rattle.sq_paged.specs.declared.store.Kept.{Kept}
+use Rattle.sq_bring.specs.declared.bring.Kept.{Kept}
 use Rattle.sq_paged.proofs.StoreLemmas.{items-seen, back-head}
 
 one-is : (o : Option (List ℕ)) (k : Option (List ℕ)) (g : Option (List ℕ)) → (is_some o || is_some k) ≡ true → IfSome k (HasDigest g) → (b : List ℕ) × (if_none o (if_kept k g) ≡ Some b)

@@ -2,7 +2,7 @@
 use Rattle.std.specs.Prelude.{List, Option, Some, true, ℕ, ◌≡◌}
 use Rattle.sq_outside.specs.Disks.{Pages}
 use Rattle.sq_pool.specs.Pools.{Pooled, bytes_in, is_held}
-use Rattle.sq_paged.specs.KeptPages.{Spares}
+use Rattle.sq_bring.specs.Bringing.{Spares}
 
 -- a page is in a frame with these bytes
 pub record Written (c : Pooled) (told : Option Pages) (d : Pooled) (now : Option Pages) (page : ℕ) (bytes : List ℕ) : Type 0 where

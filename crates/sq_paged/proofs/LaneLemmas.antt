@@ -15,7 +15,7 @@ use Rattle.sq_paged.specs.KeptPages.{items_kept}
 use Rattle.sq_paged.specs.Faces.{paged_face, paged_face_at, nodes_on, paged_items_on, items_along, IsKeptPage, IsPagedLane, PagedTogether, kept_at, count_along, is_first, last_node, last_at, last_if}
 use Rattle.sq_paged.specs.Steps.{AddsItem, Removes}
 use Rattle.sq_paged.specs.declared.Lane.{Lane}
-use Rattle.sq_paged.specs.declared.store.Kept.{Kept}
+use Rattle.sq_bring.specs.declared.bring.Kept.{Kept}
 use Rattle.sq_paged.specs.declared.Queues.{Queues}
 use Rattle.sq_paged.proofs.KeptLemmas.{first-behind}
 use Rattle.sq_paged.proofs.TouchLemmas.{together-by}

@@ -5,6 +5,5 @@ pub mod TogetherLemmas
 pub mod TouchLemmas
 pub mod ArcLemmas
 pub mod CallLemmas
-pub mod CauseLemmas
 pub mod LaneLemmas
 pub mod KeptWords

@@ -8,7 +8,7 @@ use Rattle.sq_outside.specs.Disks.{Pages}
 use Rattle.sq_pool.specs.Pools.{is_held, Agree}
 use Rattle.sq_paged.specs.Fronts.{Face, IsFaceOf}
 use Rattle.sq_paged.specs.Faces.{paged_face_at, paged_face, nodes_on, paged_items_on, items_along, IsPagedLane, PagedTogether, no_items}
-use Rattle.sq_paged.specs.declared.store.Kept.{Kept}
+use Rattle.sq_bring.specs.declared.bring.Kept.{Kept}
 use Rattle.sq_paged.specs.declared.Lane.{Lane}
 use Rattle.sq_paged.specs.declared.Queues.{Queues}
 

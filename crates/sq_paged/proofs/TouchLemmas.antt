@@ -9,11 +9,12 @@ use Rattle.sq_outside.specs.Disks.{Pages}
 use Rattle.sq_pool.specs.Pools.{is_held}
 use Rattle.sq_pool.specs.Trust.{Tells}
 use Rattle.sq_paged.specs.Fronts.{Face, IsFaceOf}
-use Rattle.sq_paged.specs.KeptPages.{items_kept, Spares}
+use Rattle.sq_paged.specs.KeptPages.{items_kept}
+use Rattle.sq_bring.specs.Bringing.{Spares}
 use Rattle.sq_paged.specs.Faces.{paged_face, paged_face_at, nodes_on, paged_items_on, items_along, IsKeptPage, IsPagedLane, IsOfNode, PagedTogether, kept_at}
 use Rattle.sq_paged.specs.Steps.{KeepsOthers}
 use Rattle.sq_paged.specs.declared.Lane.{Lane}
-use Rattle.sq_paged.specs.declared.store.Kept.{Kept}
+use Rattle.sq_bring.specs.declared.bring.Kept.{Kept}
 use Rattle.sq_paged.specs.declared.Queues.{Queues}
 use Rattle.sq_paged.proofs.KeptLemmas.{spared-kept, spared-items}
 use Rattle.sq_paged.proofs.AlongLemmas.{along-same, kept-same, kept-other, count-same}

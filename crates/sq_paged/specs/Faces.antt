@@ -8,12 +8,13 @@ use Rattle.sq_outside.specs.Disks.{DiskLog, Pages}
 use Rattle.sq_pool.specs.Trust.{Tells}
 use Rattle.sq_pool.specs.Pools.{Pooled, is_held, Agree}
 use Rattle.sq_paged.specs.Fronts.{Face, first_time, IsFaceOf}
-use Rattle.sq_paged.specs.KeptPages.{page_seen, IsFit, items_kept, IsCause, IsFirstOf}
-use Rattle.sq_paged.specs.declared.store.Kept.{Kept}
+use Rattle.sq_paged.specs.KeptPages.{items_kept, IsFirstOf}
+use Rattle.sq_bring.specs.Bringing.{page_seen, IsFit, IsCause}
+use Rattle.sq_bring.specs.declared.bring.Kept.{Kept}
 use Rattle.sq_paged.specs.declared.Lane.{Lane}
 use Rattle.sq_paged.specs.declared.Queues.{Queues}
-use Rattle.sq_paged.specs.declared.store.QueueErr.{QueueErr}
-use Rattle.sq_paged.specs.declared.store.QueueErr.TheVariants as error
+use Rattle.sq_bring.specs.declared.bring.QueueErr.{QueueErr}
+use Rattle.sq_bring.specs.declared.bring.QueueErr.TheVariants as error
 
 abbrev pub paged_face_at : Option Lane → Face
 paged_face_at None = record { count = 0; first = None; ended = false }

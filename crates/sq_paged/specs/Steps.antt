@@ -5,9 +5,10 @@ use Rattle.sq_link.specs.ChainLists.{list_at, StandsIn}
 use Rattle.sq_outside.specs.Disks.{Pages}
 use Rattle.sq_pool.specs.Pools.{is_held, Agree}
 use Rattle.sq_pool.specs.Trust.{Tells}
-use Rattle.sq_paged.specs.KeptPages.{Appended, Taken, Started, Spares}
+use Rattle.sq_paged.specs.KeptPages.{Appended, Taken, Started}
+use Rattle.sq_bring.specs.Bringing.{Spares}
 use Rattle.sq_paged.specs.Faces.{nodes_on, kept_at, paged_items_on, count_along, last_node, IsPagedLane, IsKeptPage, IsOfNode}
-use Rattle.sq_paged.specs.declared.store.Kept.{Kept}
+use Rattle.sq_bring.specs.declared.bring.Kept.{Kept}
 use Rattle.sq_paged.specs.declared.Queues.{Queues}
 
 -- An item is pushed into the page of a node: its page gains it, what is kept of that page changes, and nothing else but the pool.

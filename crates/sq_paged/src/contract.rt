@@ -6,9 +6,9 @@ ghost use Rattle.sq_item.specs.SoundItems.{IsSoundItem};
 ghost use Rattle.sq_outside.specs.Disks.{DiskLog, Honest, Pages};
 ghost use Rattle.sq_outside.specs.Faults.{Rose};
 ghost use Rattle.sq_pool.specs.Trust.{IsLater, Tells, known};
-ghost use Rattle.sq_paged.specs.declared.store.QueueErr.{QueueErr};
+ghost use Rattle.sq_bring.specs.declared.bring.QueueErr.{QueueErr};
 ghost use Rattle.sq_paged.specs.Fronts.{Face, head_by, pushed, IsPopped};
-ghost use Rattle.sq_paged.specs.KeptPages.{IsTold, NoMisfit};
+ghost use Rattle.sq_bring.specs.Bringing.{IsTold, NoMisfit};
 
 use crate::{Head, QueueErr};
 use sq_item::Item;

@@ -5,7 +5,7 @@
 //! stand for one list of items for each arc: `push` and `send` append to one list, `pop` takes its first, and all others stay.
 //! They are known where the disk is honest, and where no page came back changed with the digest of what was put. At most `frames`
 //! pages are in memory, a page of which no item is left leaves the pool, and a page that comes back from the disk is tested before an item
-//! of it is handed on. Below stand items, pages, linked lists, the pool and the disk.
+//! of it is handed on. Below stand items, pages that are brought back, linked lists, the pool and the disk.
 #![tactic(auto)]
 
 ghost use Rattle.std.specs.Prelude.{◌≡◌, ◌≢◌, ℕ, ◌+◌, ◌-◌, ◌<◌, ◌≤◌, ◌++◌, ◌∷◌, [], true, false, Option, Some, None, length, is_some, option_map, IfOk, OnOk, OnErr, IfErr, IfSome, replicate};
@@ -14,7 +14,8 @@ ghost use Rattle.sq_outside.specs.Disks.{Honest, Pages};
 ghost use Rattle.sq_outside.specs.Faults.{Rose};
 ghost use Rattle.sq_paged.specs.Fronts.{head_by};
 ghost use Rattle.sq_pool.specs.Trust.{IsLater, Tells, known};
-ghost use Rattle.sq_paged.specs.KeptPages.{IsTold, IsCause, NoMisfit, IsFirstOf};
+ghost use Rattle.sq_paged.specs.KeptPages.{IsFirstOf};
+ghost use Rattle.sq_bring.specs.Bringing.{IsTold, IsCause, NoMisfit};
 ghost use Rattle.sq_paged.specs.Faces.{paged_face, paged_size, paged_frames, paged_frames as frames_of, paged_resident_of, paged_items_on, PagedTogether, no_items, last_if, IsKeptPage, kept_at, IsPagedRefusal, SameTables, IsFirstPaged};
 ghost use Rattle.sq_paged.specs.Steps.{AppendsAt, TakesAt, StartsAt, DropsAt, AddsItem, Removes};
 ghost use Rattle.sq_page.specs.Pages.{item_bytes};
@@ -25,14 +26,15 @@ mod contract;
 mod store;
 
 pub use contract::ArcQueues;
+use sq_bring::Kept;
+pub use sq_bring::QueueErr;
 use sq_item::Item;
 use sq_link::Chains;
 use sq_outside::PageDisk;
 use sq_page::item_room;
 use sq_pool::Pool;
 use std::alloc::{AllocError, Global};
-pub use store::QueueErr;
-use store::{Kept, append_to_page, let_page_go, start_page, take_from_page};
+use store::{append_to_page, let_page_go, start_page, take_from_page};
 
 /// What stands first on an arc.
 #[derive(Clone, Copy, PartialEq, Eq, Drop)]

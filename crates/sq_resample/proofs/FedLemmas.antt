@@ -14,25 +14,26 @@ use Rattle.sq_lists.specs.WindowParts.{TimesNotFalling}
 use Rattle.sq_lists.proofs.SideLemmas.{All-recent, rises-recent, rises-push, near-recent}
 use Rattle.sq_lists.proofs.WindowLemmas.{lower, all-later}
 use Rattle.sq_lists.specs.Resamples.{resample_of}
-use Rattle.sq_oper.specs.declared.tally.Moment.{Moment}
+use Rattle.sq_oper.specs.declared.tally.Position.{Position}
 use Rattle.sq_oper.specs.Entries.{Entry, at_port, entries}
 use Rattle.sq_oper.specs.Outflow.{ThingsUpTo}
-use Rattle.sq_oper.specs.Order.{time_of, moment_after, InOrder, unmarked, IsFuture}
+use Rattle.sq_oper.specs.Order.{time_of, position_after, InOrder, unmarked, IsFuture}
 use Rattle.sq_oper.specs.Streams.{tuple_in, tuples_at, tuples_of, things, at_zero}
 use Rattle.sq_oper.proofs.GivenLemmas.{IsPrefixOf-append, IsPrefixOf-longer, ThingsUpTo-append}
 use Rattle.sq_oper.proofs.StreamLemmas.{things-append, at_zero-append, at_zero-nil, All-at_zero, UpTo-at_zero, may-come-time}
 use Rattle.sq_oper.proofs.FedLemmas.{tuple_at, tuple_entry, mark_entry, no_body, read-fed, time-before-item}
-use Rattle.sq_resample.specs.Rounds.{CanGive, HasFieldRoom, first_time_from, passed}
+use Rattle.sq_rounds.specs.Rounds.{CanGive, HasFieldRoom, first_time_from, passed}
 use Rattle.sq_resample.specs.Resampling.{IsHeld, OnlyNear, resample_fits, resample_rest}
-use Rattle.sq_resample.proofs.RoundLemmas.{All-passed, resample-parts}
+use Rattle.sq_rounds.proofs.RoundLemmas.{All-passed}
+use Rattle.sq_resample.proofs.PartLemmas.{resample-parts}
 use Rattle.sq_words.proofs.Alls.{all_weaker, all_push}
 
 -- ---- what comes at a port
 
 -- it comes in order of time
-future-rises : (place : Moment) (port : ℕ) (es : List Entry) → InOrder place es → TimesNotFalling (time_of place) (tuples_at port es)
+future-rises : (place : Position) (port : ℕ) (es : List Entry) → InOrder place es → TimesNotFalling (time_of place) (tuples_at port es)
 future-rises place port [] order = tt
-future-rises place port (e ∷ es) order = by e.thing.content (future-rises (moment_after place e) port es order.1) (may-come-time place e order.0)
+future-rises place port (e ∷ es) order = by e.thing.content (future-rises (position_after place e) port es order.1) (may-come-time place e order.0)
   where
     onto : (content : Content) (more : List Tuple) → TimesNotFalling e.thing.time more → time_of place ≤ e.thing.time → TimesNotFalling (time_of place) (tuple_in e.thing.time content ++ more)
     onto (Sign m) more up le = lower (time_of place) e.thing.time more le up
@@ -46,15 +47,15 @@ future-rises place port (e ∷ es) order = by e.thing.content (future-rises (mom
         ]
 
 -- and after an item no earlier than it
-after-fed : (fits : ℕ → List Value → Bool) (place : Moment) (port : ℕ) (item : Item) (fields : List Value) (future : List Entry) → item.body ≡ Some fields
+after-fed : (fits : ℕ → List Value → Bool) (place : Position) (port : ℕ) (item : Item) (fields : List Value) (future : List Entry) → item.body ≡ Some fields
     → IsFuture unmarked fits place (entries port item ++ future) → (q : ℕ) → TimesNotFalling item.time (tuples_at q future)
 after-fed fits place port item fields future is may q = by item.mark item.body is may
   where
     by : (m : Option Mark) (b : Option (List Value)) → b ≡ Some fields
         → IsFuture unmarked fits place (at_port port (mark_part item.time m ++ body_part item.time b) ++ future) → TimesNotFalling item.time (tuples_at q future)
     by m None e h = cc
-    by None (Some f) e h = future-rises (moment_after place (tuple_entry port item.time f)) q future h.in_order.1
-    by (Some k) (Some f) e h = future-rises (moment_after (moment_after place (mark_entry port item.time k)) (tuple_entry port item.time f)) q future h.in_order.1.1
+    by None (Some f) e h = future-rises (position_after place (tuple_entry port item.time f)) q future h.in_order.1
+    by (Some k) (Some f) e h = future-rises (position_after (position_after place (mark_entry port item.time k)) (tuple_entry port item.time f)) q future h.in_order.1.1
 
 skips-mark : (q port time : ℕ) (m : Mark) (es : List Entry) → tuples_at q (mark_entry port time m ∷ es) ≡ tuples_at q es
 skips-mark q port time m es =
@@ -96,7 +97,7 @@ first-pushed now (y ∷ xs) x is = refl
 
 -- ---- a box that is fed a tuple
 
-module _ (answers : List Tuple → List Value) (width size : ℕ) (waiting held : List Tuple) (place : Moment) (port : ℕ) (item : Item) (fields : List Value)
+module _ (answers : List Tuple → List Value) (width size : ℕ) (waiting held : List Tuple) (place : Position) (port : ℕ) (item : Item) (fields : List Value)
     (is : item.body ≡ Some fields) (sound : IsSoundItem item) (may : IsFuture unmarked (resample_fits width) place (entries port item))
     (facts : IsHeld width size (time_of place) waiting held) where
   abbrev fed : Tuple
@@ -213,17 +214,17 @@ module _ (answers : List Tuple → List Value) (width size : ℕ) (waiting held 
         let later = resample_of answers size (left_with port fed on ++ lefts) (right_with port fed kept ++ rights) in
         ap (λ l. at_zero q (things l)) list-fed ∙ ap (at_zero q) (things-append given-now later) ∙ at_zero-append q (things given-now) (things later)
 
-    pub fed_law : (q : ℕ) (before moment_after : List Thing) → moment_after ≡ before ++ at_zero q (things given-now)
+    pub fed_law : (q : ℕ) (before position_after : List Thing) → position_after ≡ before ++ at_zero q (things given-now)
         → before ++ resample_rest answers size waiting held (entries port item ++ future) q
-        ≡ moment_after ++ resample_rest answers size (left_with port fed on) (right_with port fed kept) future q
-    fed_law q before moment_after gave =
+        ≡ position_after ++ resample_rest answers size (left_with port fed on) (right_with port fed kept) future q
+    fed_law q before position_after gave =
         let rest = resample_rest answers size (left_with port fed on) (right_with port fed kept) future q in
         ap (λ l. before ++ l) (rest-fed q) ∙ sym (append_assoc before (at_zero q (things given-now)) rest) ∙ ap (λ l. l ++ rest) (sym gave)
 
-    pub fed_prefix : (q : ℕ) (before moment_after : List Thing) → IsPrefixOf moment_after (before ++ at_zero q (things given-now))
-        → IsPrefixOf moment_after (before ++ resample_rest answers size waiting held (entries port item ++ future) q)
-    fed_prefix q before moment_after h =
-        rw (rest-fed q) (IsPrefixOf-longer moment_after before (at_zero q (things given-now)) (resample_rest answers size (left_with port fed on) (right_with port fed kept) future q) h)
+    pub fed_prefix : (q : ℕ) (before position_after : List Thing) → IsPrefixOf position_after (before ++ at_zero q (things given-now))
+        → IsPrefixOf position_after (before ++ resample_rest answers size waiting held (entries port item ++ future) q)
+    fed_prefix q before position_after h =
+        rw (rest-fed q) (IsPrefixOf-longer position_after before (at_zero q (things given-now)) (resample_rest answers size (left_with port fed on) (right_with port fed kept) future q) h)
 
   whole : IsFuture unmarked (resample_fits width) place (entries port item ++ [])
   whole = rw (append-nil (entries port item)) may

@@ -1,3 +1,2 @@
-pub mod RoundLemmas
-pub mod SumLemmas
+pub mod PartLemmas
 pub mod FedLemmas

@@ -9,7 +9,7 @@ use Rattle.sq_lists.specs.WindowParts.{TimesNotFalling}
 use Rattle.sq_lists.specs.Resamples.{resample_of}
 use Rattle.sq_oper.specs.Entries.{Entry}
 use Rattle.sq_oper.specs.Streams.{things, tuples_at, at_zero}
-use Rattle.sq_resample.specs.Rounds.{HasFieldRoom, first_time_from}
+use Rattle.sq_rounds.specs.Rounds.{HasFieldRoom, first_time_from}
 
 -- what a Resample with these left and right tuples will still give: its list function of them and of those that come
 abbrev pub resample_rest : (List Tuple → List Value) → ℕ → List Tuple → List Tuple → List Entry → ℕ → List Thing

@@ -4,20 +4,20 @@ ghost use Rattle.std.specs.Prelude.{◌≡◌, ◌≤◌, ℕ, true, false, List
 ghost use Rattle.sq_value.specs.declared.Value.{Value};
 ghost use Rattle.sq_item.specs.Things.{Thing};
 ghost use Rattle.sq_lists.specs.Resamples.{resample_of};
-ghost use Rattle.sq_oper.specs.declared.tally.Moment.{Moment};
+ghost use Rattle.sq_oper.specs.declared.tally.Position.{Position};
 ghost use Rattle.sq_oper.specs.Entries.{Entry};
 ghost use Rattle.sq_oper.specs.Order.{time_of};
 ghost use Rattle.sq_oper.specs.Streams.{things, tuples_at, at_zero};
 ghost use Rattle.sq_resample.specs.Resampling.{IsHeld, OnlyNear, resample_fits, resample_rest};
-ghost use Rattle.sq_resample.specs.Running.{IsRunning, IsSum};
+ghost use Rattle.sq_running.specs.Running.{IsRunning, IsSum};
 
-use crate::rounds::{give_all, give_ready};
-use crate::running::{Held, hold};
 use sq_aggfn::Fold;
 use sq_item::Item;
-use sq_oper::{Decision, Moment, Operator, Outlet, Tally};
+use sq_oper::{Decision, Operator, Outlet, Position, Tally};
 use sq_outside::Steps;
 use sq_road::Levels;
+use sq_rounds::{give_all, give_ready};
+use sq_running::{Held, hold};
 use sq_value::{Tuple, Value};
 use std::alloc::{AllocError, Global};
 use std::collections::VecDeque;
@@ -51,7 +51,7 @@ impl<F: Fold + Drop> ResampleBox<F> {
         ensures reads { (epoch : ℕ) → ⟦<ResampleBox<F> as Operator>⟧.reads result epoch ≡ true }
         ensures holds { (time : ℕ) (things : List Thing) → ⟦<ResampleBox<F> as Operator>⟧.may_hold result time things → OnlyNear size time things }
         ensures decides { (table : ℕ → ℕ → ℕ) (future : List Entry) → ⟦<ResampleBox<F> as Operator>⟧.decides result table future ≡ [] }
-        ensures start { (⟦<ResampleBox<F> as Operator>⟧.place result ≡ Moment.Start) × (⟦<ResampleBox<F> as Operator>⟧.taken result ≡ 0) }
+        ensures start { (⟦<ResampleBox<F> as Operator>⟧.place result ≡ Position.Start) × (⟦<ResampleBox<F> as Operator>⟧.taken result ≡ 0) }
         ensures valid { ⟦<ResampleBox<F> as Operator>⟧.valid result × IsTrue (⟦<ResampleBox<F> as Operator>⟧.running result) }
     {
         ResampleBox {

@@ -11,7 +11,8 @@ use Rattle.std.specs.Fmt.{decimal}
 use Rattle.std.proofs.lemmas.Option.{same_Some}
 use Rattle.sq_lines.specs.Classes.{Class, Shown, Dropped, Planned, Ended, first_field, second_field, is_of_class, of_class, whole_lines, unfinished}
 use Rattle.sq_verdict.specs.declared.verdict.Verdict.TheVariants as verdict
-use Rattle.sq_verdict.specs.Faults.{Lines, drop_told_in, batch_of, recorded, batch_rises, has_first, is_end, has_word, output_told_in, is_next, is_line_at, count_of, word_fault, class_fault, fault_of, ends_with_end, is_short, verdict_from, verdict_on}
+use Rattle.sq_verdict.specs.Faults.{Lines, drop_told_in, batch_of, recorded, batch_rises, is_end, has_word, output_told_in, word_fault, class_fault, fault_of, ends_with_end, is_short, verdict_from, verdict_on}
+use Rattle.sq_wanted.specs.Showing.{has_first, is_next, is_line_at, count_of}
 use Rattle.sq_verdict.specs.WholeTexts.{Expected, IsWhole, is_expected}
 use Rattle.sq_verdict.proofs.WholeWords.{IsSoundDue}
 use Rattle.sq_words.proofs.Bools.{or_cases}

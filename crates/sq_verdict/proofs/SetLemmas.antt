@@ -6,7 +6,8 @@ use Rattle.std.specs.BTreeSet.{BTreeSet, contains}
 use Rattle.std.proofs.lemmas.Bool.{cases_Bool}
 use Rattle.std.proofs.lemmas.Bool.Decides.{nat_tests}
 use Rattle.sq_verdict.specs.Faults.{batch_of, drop_told_in, recorded}
-use Rattle.sq_verdict.specs.Walking.{HoldRecord, IsPut}
+use Rattle.sq_verdict.specs.Walking.{IsPut}
+use Rattle.sq_wanted.specs.Places.{HoldRecord}
 use Rattle.sq_words.specs.Lists.{contains_number}
 
 -- what all lines record of each drop is in the sets or recorded by the lines that are left

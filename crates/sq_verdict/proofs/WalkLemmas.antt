@@ -15,11 +15,13 @@ use Rattle.sq_verdict.specs.declared.verdict.AuditWhy.{AuditWhy}
 use Rattle.sq_verdict.specs.declared.verdict.AuditWhy.TheVariants as why
 use Rattle.sq_verdict.specs.declared.verdict.Verdict.{Verdict}
 use Rattle.sq_verdict.specs.declared.verdict.Verdict.TheVariants as verdict
-use Rattle.sq_verdict.specs.declared.verdict.Wanted.{Wanted}
+use Rattle.sq_wanted.specs.declared.wanted.Wanted.{Wanted}
 use Rattle.sq_verdict.specs.Cutting.{IsCut, IsRest}
-use Rattle.sq_verdict.specs.Faults.{Lines, batch_of, drop_told_in, recorded, has_first, output_told_in, count_of, is_end, is_short, class_fault, fault_of, fault_at_line, verdict_from, verdict_on}
-use Rattle.sq_verdict.specs.Wanting.{shown_of, shown_one}
-use Rattle.sq_verdict.specs.Walking.{IsAfter, AreAtPlaces, IsAtPlace, IsMost}
+use Rattle.sq_verdict.specs.Faults.{Lines, batch_of, drop_told_in, recorded, output_told_in, is_end, is_short, class_fault, fault_of, fault_at_line, verdict_from, verdict_on}
+use Rattle.sq_wanted.specs.Showing.{has_first, count_of, shown_one}
+use Rattle.sq_verdict.specs.Wanting.{shown_of}
+use Rattle.sq_verdict.specs.Walking.{IsAfter, AreAtPlaces, IsMost}
+use Rattle.sq_wanted.specs.Places.{IsAtPlace}
 use Rattle.sq_verdict.proofs.Accepts.{found, any_none, ends_last-is}
 use Rattle.sq_verdict.proofs.PlaceLemmas.{names_of}
 use Rattle.sq_words.proofs.Lists.{max_one}

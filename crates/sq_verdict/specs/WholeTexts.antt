@@ -4,7 +4,8 @@ use Rattle.std.specs.List.{filter, flat_map, list_any, list_all}
 use Rattle.sq_words.specs.Lists.{same_bytes, numbers_to}
 use Rattle.sq_lines.specs.LineTexts.{end_line}
 use Rattle.sq_lines.specs.Classes.{Shown, Dropped, Planned, Ended, is_of_class, of_class, whole_lines, unfinished}
-use Rattle.sq_verdict.specs.Faults.{Lines, has_first}
+use Rattle.sq_verdict.specs.Faults.{Lines}
+use Rattle.sq_wanted.specs.Showing.{has_first}
 
 -- the lines of each output by its name, the number of drops, the lines of each drop by its own number, and the end lines
 pub record Expected : Type 0 where

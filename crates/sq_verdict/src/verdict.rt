@@ -1,16 +1,4 @@
-// What is asked of a text, and what is answered.
-use sq_value::Name;
-
-/// What an output is to show.
-#[derive(Drop)]
-pub struct Wanted {
-    /// The name that its lines begin with.
-    pub name: Name,
-    /// The number of its stream among those that are given.
-    pub stream: u32,
-    /// The number of the drop above it and the length of that drop's batches in ticks; none where no drop is above.
-    pub above: Option<(u32, u64)>,
-}
+// What is answered of a text.
 
 /// Why a text fails.
 #[derive(Clone, Copy, PartialEq, Eq, Drop)]

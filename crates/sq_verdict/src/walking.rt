@@ -1,19 +1,21 @@
 // One walk over a text: the first fault, or what is missing.
 ghost use Rattle.std.specs.Prelude.{◌≡◌, ◌≢◌, ◌<◌, ◌+◌, ◌^◌, ◌∷◌, ◌++◌, [], ℕ, List, None, true, false, map, max, is_some, length, IfOk, IfSome, if◌then◌else◌, slice_get, slice_index, nat_lt, not, ◌||◌, ◌==◌, replicate};
 ghost use Rattle.std.specs.List.{All, find, list_any};
-ghost use Rattle.sq_words.specs.Lists.{are_distinct, same_bytes, nth};
+ghost use Rattle.sq_words.specs.Lists.{are_distinct, same_bytes};
 ghost use Rattle.sq_lines.specs.Classes.{first_field, whole_lines};
-ghost use Rattle.sq_verdict.specs.Faults.{Lines, class_fault, count_of, drop_told_in, fault_of, has_first, has_word, is_end, is_next, output_told_in, recorded, batch_rises, word_fault};
-ghost use Rattle.sq_verdict.specs.Wanting.{IsBelow, shown_of, shown_one, verdict_of};
-ghost use Rattle.sq_verdict.specs.Walking.{AreAtPlaces, HoldRecord, IsAfter, IsAtPlace, IsMost, found_in, is_line_of, line_fault};
+ghost use Rattle.sq_verdict.specs.Faults.{Lines, class_fault, drop_told_in, fault_of, has_word, is_end, output_told_in, recorded, batch_rises, word_fault};
+ghost use Rattle.sq_wanted.specs.Showing.{count_of, has_first, is_next, IsBelow, shown_one, is_line_of};
+ghost use Rattle.sq_verdict.specs.Wanting.{shown_of, verdict_of};
+ghost use Rattle.sq_verdict.specs.Walking.{AreAtPlaces, IsAfter, IsMost, found_in, line_fault};
+ghost use Rattle.sq_wanted.specs.Places.{HoldRecord, IsAtPlace};
 
 use crate::cutting::{cut_field, cut_line};
 use crate::dropping::drop_told_in;
 use crate::recording::recorded_in;
-use crate::skipping::next_place;
-use crate::{AuditWhy, Verdict, Wanted};
+use crate::{AuditWhy, Verdict};
 use sq_lines::{Quoter, append_output_line};
 use sq_value::{Name, Tuple, same_bytes};
+use sq_wanted::{Wanted, has_more, next_place, stream_in};
 use std::alloc::{AllocError, Global};
 use std::collections::BTreeSet;
 
@@ -105,16 +107,6 @@ fn is_line_of(
             append_output_line(name, t, &mut expected.quoter, &mut expected.text)?;
             Ok(same_bytes(line, expected.text.as_slice()))
         }
-    }
-}
-
-/// The stream of this number among some, or no tuples where there is none.
-fn stream_in(streams: &[Vec<Tuple>], stream: u32) -> &[Tuple]
-    ensures { result.now ≡ nth (map (λ v. v.items) streams.now) stream }
-{
-    match streams.get(stream as usize) {
-        Some(tuples) => tuples.as_slice(),
-        None => &[],
     }
 }
 
@@ -275,16 +267,6 @@ fn step(
     note_drop(&mut walk.most, found);
     walk.ended = is_end(line);
     Ok(fault)
-}
-
-/// Whether an output is still to show a tuple.
-fn has_more(sets: &[BTreeSet<u64>], streams: &[Vec<Tuple>], output: &Wanted, place: usize) -> bool
-    requires below { IsBelow (length sets.now) output.now }
-    ensures { (record_at : ℕ → List ℕ) (before : List (List ℕ)) → HoldRecord sets.now record_at → IsAtPlace record_at (map (λ t. t.items) streams.now) output.now place before
-        → result ≡ nat_lt (count_of before output.now.name) (length (shown_one record_at (map (λ t. t.items) streams.now) output.now).1) }
-{
-    let tuples = stream_in(streams, output.stream);
-    next_place(sets, output.above, tuples, place) < tuples.len()
 }
 
 /// Whether an output has fewer lines than it is to show.

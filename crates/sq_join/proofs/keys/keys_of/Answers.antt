@@ -2,7 +2,7 @@ use Rattle.std.proofs.Common.{arith, refl}
 use Rattle.std.proofs.lemmas.Grind.{common_steps}
 use Rattle.std.proofs.lemmas.Option.{slice_get_read}
 use Rattle.sq_words.proofs.Alls.{all_at}
-use Rattle.sq_join.specs.EqualFields.{Equates}
+use Rattle.sq_pairs.specs.EqualPlaces.{Equates}
 use Rattle.sq_join.proofs.keys.keys_of.Goals as goal
 
 pub loop-i-preserved : goal.loop-i-preserved

@@ -4,7 +4,7 @@ use Rattle.std.specs.Option.{option_map}
 use Rattle.sq_place.specs.declared.DropPoint.{DropPoint}
 use Rattle.sq_model.specs.GivenLevels.{shown_without}
 use Rattle.sq_model.specs.KnownStreams.{arc_in}
-use Rattle.sq_model.proofs.FirstLemmas.{there-in}
+use Rattle.sq_points.proofs.FirstLemmas.{there-in}
 use Rattle.sq_model.proofs.ShedLemmas.{found_output, answer_plain, answer_shown}
 use Rattle.sq_model.proofs.answers.answer_in.Goals as goal
 use Rattle.sq_points.specs.Above.{drop_above_output}

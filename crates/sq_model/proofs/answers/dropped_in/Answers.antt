@@ -3,7 +3,7 @@ use Rattle.std.proofs.lemmas.Result.{IfOk-weaker}
 use Rattle.sq_value.specs.Values.{IsStream}
 use Rattle.sq_model.specs.Shedding.{record_of}
 use Rattle.sq_model.specs.GivenLevels.{AreTicks, record_by}
-use Rattle.sq_model.proofs.FirstLemmas.{there-in}
+use Rattle.sq_points.proofs.FirstLemmas.{there-in}
 use Rattle.sq_model.proofs.ShedLemmas.{place_stream, place_ticks, known_by, record_known}
 use Rattle.sq_model.proofs.answers.dropped_in.Goals as goal
 

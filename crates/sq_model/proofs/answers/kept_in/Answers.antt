@@ -2,7 +2,7 @@ use Rattle.std.proofs.Common.{◌≡◌, ◌∙◌, ◌≤◌, ◌<◌, List, sl
 use Rattle.std.specs.Option.{option_map}
 use Rattle.sq_value.specs.declared.Tuple.{Tuple}
 use Rattle.sq_place.specs.declared.DropPoint.{DropPoint}
-use Rattle.sq_model.proofs.FirstLemmas.{there-in}
+use Rattle.sq_points.proofs.FirstLemmas.{there-in}
 use Rattle.sq_model.specs.GivenLevels.{AreTicks, kept_by}
 use Rattle.sq_model.proofs.ShedLemmas.{arc_ticks, found_arc, kept_plain, kept_known}
 use Rattle.sq_model.proofs.answers.kept_in.Goals as goal
@@ -29,5 +29,5 @@ returns-in-Some c = λ r known.
     found_arc k r known c.deref.result.now c.args.arc (Some (w, p)) points
     (c.in-Some.ensures.first ∙ ap (λ (ps : List DropPoint). option_map (λ (q : DropPoint). (w, q)) (slice_get ps w)) points ∙ ap (option_map (λ (q : DropPoint). (w, q))) here) in
     c.kept_number.ensures
-    ∙ ap (λ d. length (kept_by k.levels k.seed w p d c.at_arc-full.result.now)) c.distance-distance.ensures
+    ∙ ap (λ d. length (kept_by k.levels k.seed w p d c.at_arc-full.result.now)) c.distance_below-distance.ensures
     ∙ ap (λ (l : List Tuple). length l) (ap (kept_by k.levels k.seed w p (distance_of p c.args.arc)) c.at_arc-full.ensures ∙ kept_known k r known c.requires lasts w p c.args.arc above)

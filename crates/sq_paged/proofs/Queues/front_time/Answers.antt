@@ -3,7 +3,7 @@ use Rattle.std.proofs.lemmas.Grind.{common_steps}
 use Rattle.std.proofs.lemmas.List.{get_or_read}
 use Rattle.std.specs.Prelude.{option_map}
 use Rattle.sq_paged.specs.Faces.{kept_at, no_page}
-use Rattle.sq_paged.specs.declared.store.Kept.{Kept}
+use Rattle.sq_bring.specs.declared.bring.Kept.{Kept}
 use Rattle.sq_paged.proofs.TouchLemmas.{alone-by}
 use Rattle.sq_paged.proofs.CallLemmas.{first-in}
 use Rattle.sq_paged.proofs.Queues.front_time.Goals as goal

@@ -4,12 +4,12 @@ use Rattle.sq_link.specs.ChainLists.{Chained, head_or, list_at}
 use Rattle.std.specs.Prelude.{None}
 use Rattle.sq_pool.proofs.TrustLemmas.{IsLater-trans}
 use Rattle.sq_paged.specs.Faces.{IsFirstAlong, IsFirstPaged}
-use Rattle.sq_paged.specs.declared.store.Kept.{Kept}
+use Rattle.sq_bring.specs.declared.bring.Kept.{Kept}
 use Rattle.sq_paged.proofs.AlongLemmas.{head-is}
 use Rattle.sq_paged.proofs.TouchLemmas.{alone-by}
 use Rattle.sq_paged.proofs.ArcLemmas.{take-removes, gone-removes}
 use Rattle.sq_paged.proofs.CallLemmas.{inside, first-in, left-is, cause-refusal, plain-refusal, rose-since, some-first, taken-inside, taken-below, taken-held, taken-there}
-use Rattle.sq_paged.proofs.CauseLemmas.{told-fits-all}
+use Rattle.sq_bring.proofs.CauseLemmas.{told-fits-all}
 use Rattle.sq_paged.proofs.Queues.take.Goals as goal
 
 pub take_first-requires-clause-node : goal.take_first-requires-clause-node

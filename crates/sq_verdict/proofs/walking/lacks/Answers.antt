@@ -1,7 +1,7 @@
 use Rattle.std.proofs.Common.{◌∙◌, sym, refl, length, map}
 use Rattle.std.specs.Prelude.{nat_lt}
 use Rattle.std.proofs.lemmas.Option.{slice_get_read}
-use Rattle.sq_verdict.specs.Faults.{count_of}
+use Rattle.sq_wanted.specs.Showing.{count_of}
 use Rattle.sq_verdict.proofs.PlaceLemmas.{any_here, any_later}
 use Rattle.sq_verdict.proofs.walking.lacks.Goals as goal
 

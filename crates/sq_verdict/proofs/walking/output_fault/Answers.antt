@@ -1,8 +1,9 @@
 use Rattle.std.proofs.Common.{◌≡◌, ◌∙◌, [], ◌∷◌, ◌++◌, IfSome, true, ap, sym, subst, map, is_some}
 use Rattle.std.proofs.lemmas.Grind.{get_or_default_zero}
 use Rattle.std.proofs.lemmas.List.{get_or-set_same}
-use Rattle.sq_verdict.specs.Faults.{has_first}
-use Rattle.sq_verdict.specs.Walking.{IsAtPlace, line_fault}
+use Rattle.sq_wanted.specs.Showing.{has_first}
+use Rattle.sq_verdict.specs.Walking.{line_fault}
+use Rattle.sq_wanted.specs.Places.{IsAtPlace}
 use Rattle.sq_verdict.proofs.walking.output_fault.Goals as goal
 
 pub returns-in-Some-clause-fault : goal.returns-in-Some-clause-fault

@@ -6,7 +6,7 @@ use Rattle.sq_lists.specs.Sides.{recent}
 use Rattle.sq_oper.specs.Outflow.{given}
 use Rattle.sq_oper.specs.Order.{time_of}
 use Rattle.sq_oper.proofs.FedLemmas.{tuple_at, time-after-item}
-use Rattle.sq_resample.specs.Rounds.{first_time_from}
+use Rattle.sq_rounds.specs.Rounds.{first_time_from}
 use Rattle.sq_resample.specs.Resampling.{resample_rest}
 use Rattle.sq_resample.proofs.FedLemmas.{fed_early, fed_prefix, fed_law, fed_times, fed_held, fed_facts, length-recent, length-right}
 use Rattle.sq_resample.proofs.resample.ResampleBoxOperator.feed.Goals as goal

@@ -1,5 +1,0 @@
-use Rattle.sq_join.proofs.EqualLemmas.{IfOk-equates}
-use Rattle.sq_join.proofs.condition.Condition.equated.Goals as goal
-
-pub returns : goal.returns
-returns c = IfOk-equates c.args.self.now.tree c.equated_fields.result (rw c.self.view_is at c.equated_fields.ensures)
