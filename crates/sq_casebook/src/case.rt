@@ -25,7 +25,7 @@ pub struct Case {
     pub takes: usize,
 }
 
-/// Which byte of a page is answered wrongly.
+/// Which byte of a page is answered wrongly, if a case doesn't say.
 const CHANGED: u32 = 17;
 
 /// The words of a case, between commas.
@@ -44,9 +44,11 @@ fn push_numbers(numbers: &mut Vec<u64>, case: &str, key: &str) -> Result<(), All
 }
 
 fn push_flips(flips: &mut Vec<Flip>, case: &str) -> Result<(), AllocError> {
+    let byte = setting(case, "byte").unwrap_or("");
+    let at = byte.parse::<u32>().unwrap_or(CHANGED);
     for get in setting(case, "flips").unwrap_or("").split(',') {
         if let Ok(get) = get.parse::<u64>() {
-            flips.push(Flip { get, at: CHANGED })?;
+            flips.push(Flip { get, at })?;
         }
     }
     Ok(())
@@ -103,7 +105,7 @@ impl Faults {
 
 impl Case {
     /// Takes a file.
-    pub fn push_file(&mut self, alloc: Global, name: &str, bytes: &[u8]) -> Result<(), AllocError> {
+    fn push_file(&mut self, alloc: Global, name: &str, bytes: &[u8]) -> Result<(), AllocError> {
         let bytes = Vec::from_slice(alloc, bytes)?;
         self.files.push((written_out(alloc, name)?, bytes))?;
         Ok(())

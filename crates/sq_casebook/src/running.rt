@@ -75,12 +75,8 @@ fn run_over<L: Ledger>(alloc: Global, case: Case, blank: Blank) -> Ran
     }
 }
 
-/// The run of a case.
-pub fn run_case(alloc: Global, case: Case) -> Ran {
-    run_over::<Brand>(alloc, case, Blank::new(1))
-}
-
 /// The run of the case of a text.
 pub fn run_text(alloc: Global, text: &str) -> Result<Ran, AllocError> {
-    Ok(run_case(alloc, Case::read(alloc, text)?))
+    let case = Case::read(alloc, text)?;
+    Ok(run_over::<Brand>(alloc, case, Blank::new(1)))
 }

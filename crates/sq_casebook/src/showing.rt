@@ -1,24 +1,18 @@
 // What is shown of cases.
-use crate::auditing::{show_cuts, show_verdict};
 use crate::beside::{compare, count_of, first_field, push_class};
 use crate::case::words_of;
 use crate::running::{Ran, run_text};
-use crate::stepping::compare_puts;
 use crate::texts::{push_line, setting};
-use crate::turns::{show_turns, turns_of};
+use crate::turns::show_turns;
 use anyhow::Error;
 use std::alloc::{AllocError, Global};
 
-/// Whether a case says this of a setting.
-fn says(case: &str, key: &str, value: &str) -> bool {
-    setting(case, key).unwrap_or("") == value
-}
-
-/// Whether what the run of a case wrote is audited where it ended well: of a run over files that are made, and of one over
-/// files that are written out, unless the case says no. The latter is compared, too.
-fn is_audited(case: &str) -> bool {
+/// Whether what the run of a case wrote is compared where it ended well: of a run over files that are written out, unless the case says
+/// no.
+fn is_compared(case: &str) -> bool {
     first_field(words_of(case)) == "run"
-        && (setting(case, "made").is_some() || !says(case, "compared", "no"))
+        && setting(case, "made").is_none()
+        && setting(case, "compared").unwrap_or("") != "no"
 }
 
 /// Whether the class of a line is named between commas.
@@ -93,45 +87,24 @@ fn show_ran(shown: &mut String, case: &str, ran: &Ran) -> Result<(), AllocError>
     show_puts(shown, case, ran.disk.puts().len())
 }
 
-/// Shows where what a run wrote isn't accepted or differs from the slow definitions, and counts it where it is compared.
-fn check(
-    alloc: Global,
-    shown: &mut String,
-    case: &str,
-    ran: &Ran,
-    compared: &mut u64,
-) -> Result<(), AllocError> {
-    if ran.code != 0 || !is_audited(case) {
-        return Ok(());
-    }
-    show_verdict(alloc, shown, case, ran.out.bytes())?;
-    if setting(case, "made").is_some() {
-        return Ok(());
-    }
-    *compared = compared.saturating_add(1);
-    compare(alloc, shown, case, ran.written())?;
-    if says(case, "puts", "as stepped") {
-        return compare_puts(alloc, shown, case, ran.disk.puts());
-    }
-    Ok(())
-}
-
-/// Shows the run of a case, or what comes of it where it is cut or fails in turn.
+/// Shows the run of a case, and where it differs from the slow definitions; counts it where it is compared. Or what comes of it
+/// where one call after another fails.
 fn show_run(
     alloc: Global,
     shown: &mut String,
     case: &str,
     compared: &mut u64,
 ) -> Result<(), AllocError> {
-    if says(case, "cuts", "yes") {
-        return show_cuts(alloc, shown, case);
-    }
-    if let Some(turns) = turns_of(case) {
-        return show_turns(alloc, shown, case, turns);
+    if let Some(key) = setting(case, "turns") {
+        return show_turns(alloc, shown, case, key);
     }
     let ran = run_text(alloc, case)?;
     show_ran(shown, case, &ran)?;
-    check(alloc, shown, case, &ran, compared)
+    if ran.code != 0 || !is_compared(case) {
+        return Ok(());
+    }
+    *compared = compared.saturating_add(1);
+    compare(alloc, shown, case, ran.written())
 }
 
 /// Shows a run of a case, in which a row stands for `$`.

@@ -1,3 +1,1 @@
-mod DiskLemmas
-pub mod KeyLemmas
 mod ToldLemmas

@@ -1,7 +1,9 @@
 ghost use Rattle.std.specs.Prelude.{◌≡◌, ◌<◌, [], length, IfOk};
 
-use sq_feeds::{Feeds, MemFeeds};
+use sq_feeds::{FeedErr, Feeds, MemFeeds};
+use sq_system::OpenFeeds;
 use std::alloc::{AllocError, Global};
+use std::fs;
 use std::test::Fail;
 
 // How many bytes two reads give of the first feed that is opened, where the first of them gives some.
@@ -55,5 +57,25 @@ fn a_feed_in_memory_is_cut_and_fails_where_it_is_to(rt: HostRuntime) -> Result<(
         let ends = (first[0], first[2], second[0], second[2]);
         assert!(rt; told.is_none() || ends == (b'1', 0, b'3', b'5'));
     }
+    Ok(())
+}
+
+const FEED: &str = "aurora_feed_test.txt";
+
+#[test]
+fn a_real_feed_is_read_in_pieces_up_to_its_end(rt: HostRuntime) -> Result<(), Fail> {
+    let alloc = rt.alloc();
+    fs::write(&rt, FEED, "12345")?;
+    let mut feeds = OpenFeeds::new(alloc, &rt);
+    let (mut first, mut second) = ([0; 3], [0; 8]);
+    let counts = two_reads(alloc, &mut feeds, FEED, &mut first, &mut second);
+    assert!(rt; counts == Some((3, 2)) && feeds.faults == 0);
+    assert!(rt; (first[2], second[0], second[1], second[2]) == (b'3', b'4', b'5', 0));
+    let mut feeds = OpenFeeds::new(alloc, &rt);
+    let ended = two_reads(alloc, &mut feeds, FEED, &mut second, &mut first);
+    let removed = fs::remove_file(&rt, FEED).is_ok();
+    let gone = feeds.open(alloc, FEED);
+    assert!(rt; removed && ended == Some((5, 0)));
+    assert!(rt; gone == Err(FeedErr::Failed) && feeds.faults == 1);
     Ok(())
 }

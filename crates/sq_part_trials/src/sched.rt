@@ -43,20 +43,3 @@ fn each_rule_chooses_by_its_own(rt: HostRuntime) -> Result<(), Fail> {
     }
     Ok(())
 }
-
-#[test]
-fn ready_actors_stand_in_the_order_in_which_they_became_so(rt: HostRuntime) -> Result<(), Fail> {
-    let mut ready = Ready::new(rt.alloc(), 4)?;
-    let empty = ready.is_empty();
-    ready.push(3);
-    ready.push(0);
-    ready.push(2);
-    ready.remove(0);
-    ready.remove(1);
-    let there = [ready.has(0), ready.has(2), ready.has(4)];
-    ready.push(0);
-    let actors = [ready.at(0), ready.at(1), ready.at(2)];
-    assert!(rt; empty && there == [false, true, false]);
-    assert!(rt; actors == [3, 2, 0] && ready.len() == 3);
-    Ok(())
-}

@@ -84,7 +84,7 @@ fn a_told_file_is_read_whole(rt: HostRuntime) -> Result<(), Fail> {
     let long = folder.read_whole(rt.alloc(), "a", 8);
     assert!(rt; long.err() == Some(FolderErr::TooLong));
     let Ok(bytes) = folder.read_whole(rt.alloc(), "a", 9) else {
-        return Ok(());
+        return Err(Fail::from("it isn't read"));
     };
     assert!(rt; bytes.as_slice() == b"123456789".as_slice());
     Ok(())
@@ -107,7 +107,6 @@ fn a_told_file_is_read_in_pieces(rt: HostRuntime) {
 fn two_pages_stand_in_a_file_for_two(rt: HostRuntime) -> Result<(), Fail> {
     let bytes = Vec::from_elem(rt.alloc(), 0, 2 * PAGE)?;
     let mut disk = SpillFile::new(Room { bytes });
-    let mut page = [0; PAGE];
     let puts = [
         disk.put(1, &[7; PAGE]),
         disk.put(0, &[5; PAGE]),

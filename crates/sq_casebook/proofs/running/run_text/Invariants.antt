@@ -1,4 +1,4 @@
-use Rattle.sq_casebook.proofs.running.run_case.Given as goal
+use Rattle.sq_casebook.proofs.running.run_text.Given as goal
 
 abbrev pub ghosts-run_over : goal.ghosts-run_over
 ghosts-run_over a = record { name = a.blank.name; parts = a.blank.parts }
