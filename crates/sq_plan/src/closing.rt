@@ -6,7 +6,6 @@ ghost use Rattle.sq_road.specs.Roads.{level_in};
 ghost use Rattle.sq_plan.specs.Rates.{load_of_all};
 ghost use Rattle.sq_plan.specs.Settings.{row_for};
 ghost use Rattle.sq_plan.specs.Plans.{Setting, road_for, taken_for, capacity_at};
-ghost use Rattle.sq_plan.specs.Flows.{AreCounts};
 ghost use Rattle.sq_plan.specs.PlanRows.{is_quiet, shown_with, shown_from, listed, level_for, shown_after, Ended};
 
 use crate::{Planned, Planner};
@@ -60,7 +59,6 @@ fn plan_after(
     counts: &Vec<u64>,
     ended: u64,
 ) -> Result<Option<Shown>, AllocError>
-    requires counts { AreCounts counts.now.items }
     requires next { levels.old.closed ≡ ended + 1 }
     requires fits { ended + 1 < 2 ^ 64 - 1 }
     ensures same { planner.new ≡ planner.old }
@@ -92,7 +90,6 @@ pub fn close_epochs(
     counts: &Vec<u64>,
     next: u64,
 ) -> Result<Option<Shown>, AllocError>
-    requires counts { AreCounts counts.now.items }
     requires later { levels.old.closed ≤ next + 1 }
     requires fits { next < 2 ^ 64 - 1 }
     ensures same { planner.new ≡ planner.old }

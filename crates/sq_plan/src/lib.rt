@@ -1,6 +1,6 @@
 //! Rates, loads and the planner.
 //!
-//! The contracts promise exactly the rates and loads of the definition, nothing cut off; that an epoch which is closed
+//! The contracts promise exactly the rates and loads of the definition, whatever the counts; that an epoch which is closed
 //! gets the levels of the least row that fits its capacity, or of the last; and that epochs without tuples are skipped
 //! however many they are, with the levels and the plans that the definition gives for every epoch. Below stand the drop
 //! points of `sq_place` and the roads and levels of `sq_road`.
@@ -9,11 +9,13 @@
 mod capacities;
 mod closing;
 mod flows;
+mod laws;
 mod planner;
 
 pub use capacities::Capacities;
 pub use closing::{Shown, close_epochs};
 pub use flows::{loads, rates};
+pub use laws::sources_are_counted;
 pub use planner::{Planned, Planner};
 use sq_value::ListOf;
 
