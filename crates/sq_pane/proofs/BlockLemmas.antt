@@ -1,15 +1,17 @@
 -- Blocks: what stays of them, and what a window takes of them.
 use Rattle.std.proofs.Common.{◌≡◌, ℕ, zero, suc, ◌+◌, ◌-◌, ◌*◌, ◌<◌, ◌≤◌, length, length-drop, get_or, take, drop, List, [], ◌∷◌, ◌++◌, Bool, true, false, cond, Option, Some, None, Result, Ok, Err, OnOk, OnErr, refl, ap, ap₂, sym, ◌∙◌, subst, Ordering, Less, Equal, Greater, nat_cmp, arith, tests}
 use Rattle.std.proofs.Math.Seq.{drop-nil}
-use Rattle.std.proofs.lemmas.List.{drop_more, get_or-drop, get_or_default}
+use Rattle.std.proofs.lemmas.List.{get_or-drop, get_or_default}
 use Rattle.std.specs.Prelude.{if◌then◌else◌, nat_lt, nat_le, ◌==◌, ◌&&◌, unwrap_or}
 use Rattle.std.specs.Ordering.{match_ordering}
 use Rattle.std.specs.List.{AllByRecursion, filter, remove}
 use Rattle.sq_aggfn.specs.declared.WindowSpec.{WindowSpec}
 use Rattle.sq_aggfn.specs.KeyedStates.{added}
-use Rattle.sq_pane.specs.Panes.{NumbersRise, total, shift_of, within, joined_within, IsMadeIf}
-use Rattle.sq_pane.specs.Blocks.{joined_onto, AreBlocks, begins_before}
-use Rattle.sq_pane.proofs.LineLemmas.{all-at, drop_at, greater}
+use Rattle.sq_pane.specs.Panes.{NumbersRise, shift_of, within, joined_within, IsMadeIf}
+use Rattle.sq_rows.specs.Rows.{total, joined_onto}
+use Rattle.sq_pane.specs.Blocks.{AreBlocks, begins_before}
+use Rattle.sq_pane.proofs.LineLemmas.{greater}
+use Rattle.sq_rows.proofs.RowLemmas.{all-at, drop_at, run_next}
 
 -- parts of lists
 pub drop_add : {A : Type 0} (a b c : ℕ) (xs : List A) → c ≡ a + b → drop c xs ≡ drop b (drop a xs)
@@ -58,6 +60,10 @@ all_up_to {M} n (e ∷ h ∷ es) up last =
     let next : length (e ∷ h ∷ es) - 1 ≡ suc (length (h ∷ es) - 1) = omega arith in
     let rest = all_up_to n (h ∷ es) up.1 (λ (d : ℕ × M) (some : 0 < length (h ∷ es)). subst (λ k. (get_or (e ∷ h ∷ es) k d).0 ≤ n) next (last d (omega arith))) in
     (let low = up.0.0 in let le = rest.0 in omega (arith, low, le), rest)
+
+-- and none is where the last is that of a pane
+pub all_at_last : {M : Type 0} (n : ℕ) (es : List (ℕ × M)) → NumbersRise es → ((d : ℕ × M) → (get_or es (length es - 1) d).0 ≡ n) → AllByRecursion (λ e. e.0 ≤ n) es
+all_at_last {M} n es up last = all_up_to n es up (λ (d : ℕ × M) (some : 0 < length es). (let at = last d in omega (arith, at)))
 
 -- a state that is added to the last pane or behind it changes nothing before the last one
 module _ {M : Type 0} (none : M) (join : M → M → M) (n : ℕ) (u : M) where
@@ -137,12 +143,6 @@ none_gone n [] up is = refl
 none_gone {M} n (e ∷ es) up is =
     let low = at_least n e.0 is in
     kept_all n (e ∷ es) (low, all_mapped (λ (h : ℕ × M). e.0 < h.0) (λ (h : ℕ × M). n ≤ h.0) (λ h lt. omega (arith, low, lt)) es up.0)
-
--- the next of a run
-pub run_next : {A : Type 0} (xs : List A) (i to : ℕ) (x : A) → i < to → i < length xs → x ≡ get_or xs i x → take (to - i) (drop i xs) ≡ x ∷ take (to - (i + 1)) (drop (i + 1) xs)
-run_next xs i to x lt inside is =
-    let next : to - i ≡ suc (to - (i + 1)) = omega (arith, lt) in
-    ap₂ take next (drop_more xs i x inside) ∙ ap (λ z. z ∷ take (to - (i + 1)) (drop (i + 1) xs)) (sym is)
 
 -- the next of some states in a row is joined, or passed by
 pub next_joined : {M : Type 0} (none : M) (join : M → M → M) (w : WindowSpec) (width start : ℕ) (o : Option M) (es : List (ℕ × M)) (i : ℕ) (x : ℕ × M) (b : Bool) → i < length es → x ≡ get_or es i x → within w width start x.0 ≡ b

@@ -1,12 +1,13 @@
 -- The states of one group.
 use Rattle.std.proofs.Common.{◌≡◌, ℕ, zero, suc, ◌+◌, ◌-◌, ◌<◌, ◌≤◌, length, get_or, set, take, drop, ◌⊎◌, inl, inr, List, [], ◌∷◌, Bool, true, false, cond, refl, ap, ap₂, sym, ◌∙◌, subst, Ordering, Less, Equal, Greater, nat_cmp, arith, tests}
-use Rattle.std.proofs.lemmas.List.{drop_more}
 use Rattle.std.specs.Ordering.{match_ordering}
 use Rattle.std.specs.Cmp.{nat_cmp_total}
 use Rattle.std.specs.List.{AllByRecursion, filter, insert}
 use Rattle.sq_aggfn.specs.KeyedStates.{added}
-use Rattle.sq_pane.specs.Panes.{NumbersRise, total, AllAreMade}
+use Rattle.sq_pane.specs.Panes.{NumbersRise}
+use Rattle.sq_rows.specs.Rows.{total, AllAreMade}
 use Rattle.sq_pane.proofs.WindowLemmas.{itself}
+use Rattle.sq_rows.proofs.RowLemmas.{all-at}
 
 pub greater : (a b : ℕ) → b < a → nat_cmp a b ≡ Greater
 greater a b lt = grind (arith, tests)
@@ -15,11 +16,6 @@ pub lesser : (a b : ℕ) → a < b → nat_cmp a b ≡ Less
 lesser a b lt = grind (arith, tests)
 
 module _ {A : Type 0} (P : A → Type 0) where
-  pub all-at : (xs : List A) (i : ℕ) (d : A) → AllByRecursion P xs → i < length xs → P (get_or xs i d)
-  all-at [] i d all lt = absurd (omega (arith, lt))
-  all-at (x ∷ xs) zero d all lt = all.0
-  all-at (x ∷ xs) (suc i) d all lt = all-at xs i d all.1 (omega (arith, lt))
-
   all-set : (xs : List A) (i : ℕ) (x : A) → AllByRecursion P xs → P x → AllByRecursion P (set xs i x)
   all-set [] i x all p = tt
   all-set (y ∷ ys) zero x all p = (p, all.1)
@@ -40,10 +36,6 @@ pub same_at : {A : Type 0} (xs : List A) (i : ℕ) (x y : A) → i < length xs �
 same_at [] i x y lt ex ey = absurd (omega (arith, lt))
 same_at (z ∷ zs) zero x y lt ex ey = ex ∙ sym ey
 same_at (z ∷ zs) (suc i) x y lt ex ey = same_at zs i x y (omega (arith, lt)) ex ey
-
--- from a place on stands what is there, and then the rest
-pub drop_at : {A : Type 0} (xs : List A) (i : ℕ) (x : A) → i < length xs → x ≡ get_or xs i x → drop i xs ≡ x ∷ drop (i + 1) xs
-drop_at xs i x lt is = drop_more xs i x lt ∙ ap (λ z. z ∷ drop (i + 1) xs) (sym is)
 
 -- an element that is written anew with itself
 pub set_same : {A : Type 0} (xs : List A) (i : ℕ) (x : A) → i < length xs → x ≡ get_or xs i x → set xs i x ≡ xs
@@ -70,9 +62,6 @@ module _ {M : Type 0} where
 
   pub made_insert : (made : M → Type 0) (es : List (ℕ × M)) (i : ℕ) (x : ℕ × M) → AllAreMade made es → made x.1 → AllAreMade made (insert es i x)
   made_insert made es i x all p = all-insert (λ (e : ℕ × M). made e.1) es i x all p
-
-  pub made_at : (made : M → Type 0) (es : List (ℕ × M)) (i : ℕ) (x : ℕ × M) → i < length es → x ≡ get_or es i x → AllAreMade made es → made x.1
-  made_at made es i x lt is all = subst (λ (z : ℕ × M). made z.1) (sym is) (all-at (λ (e : ℕ × M). made e.1) es i x all lt)
 
   module _ (number : M → ℕ) where
     pub total_at : (es : List (ℕ × M)) (i : ℕ) (x : ℕ × M) → i < length es → x ≡ get_or es i x → number x.1 ≤ total number es

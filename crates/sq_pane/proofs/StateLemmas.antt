@@ -13,7 +13,8 @@ use Rattle.sq_aggfn.specs.KeyedStates.{added}
 use Rattle.sq_aggfn.proofs.KeyedLemmas.{Ascends}
 use Rattle.sq_groups.proofs.OrderLemmas.{Keeps}
 use Rattle.sq_pane.specs.declared.line.Line.{Line}
-use Rattle.sq_pane.specs.Panes.{Key, key_cmp, from_pane, under_group, within, window_from, joined_within, group_entry, NumbersRise, IsMadeIf, total, AllAreMade}
+use Rattle.sq_pane.specs.Panes.{Key, key_cmp, from_pane, under_group, within, window_from, joined_within, group_entry, NumbersRise, IsMadeIf}
+use Rattle.sq_rows.specs.Rows.{total, AllAreMade}
 use Rattle.sq_pane.specs.States.{states_of}
 use Rattle.sq_pane.proofs.WindowLemmas.{itself}
 use Rattle.sq_pane.proofs.PaneLemmas.{key_order}

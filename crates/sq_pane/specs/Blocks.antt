@@ -1,11 +1,6 @@
 -- Blocks: joins of the states of some panes in a row.
 use Rattle.std.specs.Prelude.{◌≡◌, ℕ, ◌<◌, ◌≤◌, nat_lt, Bool, false, List, [], ◌∷◌, length, take, drop}
-use Rattle.sq_pane.specs.Panes.{total}
-
--- some states joined to one, in the order of time
-abbrev pub joined_onto : {M : Type 0} → (M → M → M) → M → List (ℕ × M) → M
-joined_onto join m [] = m
-joined_onto join m (e ∷ es) = joined_onto join (join m e.1) es
+use Rattle.sq_rows.specs.Rows.{total, joined_onto}
 
 -- a state that was joined of some
 pub record IsJoin {M : Type 0} (none : M) (join : M → M → M) (made : M → Type 0) (number : M → ℕ) (es : List (ℕ × M)) (block : M) : Type 0 where

@@ -3,7 +3,8 @@
 ghost use Rattle.std.specs.Prelude.{◌≡◌, ◌+◌, ◌^◌, ◌<◌, ◌≤◌, ◌++◌, true, [], map, OnOk, OnErr, IfOk};
 ghost use Rattle.sq_aggfn.specs.Groups.{group_of};
 ghost use Rattle.sq_aggfn.specs.KeyedStates.{added};
-ghost use Rattle.sq_pane.specs.Panes.{key_cmp, from_pane, window_from, total, AllAreMade, group_entry, lent_group};
+ghost use Rattle.sq_pane.specs.Panes.{key_cmp, from_pane, window_from, group_entry, lent_group};
+ghost use Rattle.sq_rows.specs.Rows.{total, AllAreMade};
 ghost use Rattle.sq_pane.specs.Blocks.{IsJoin};
 ghost use Rattle.sq_pane.specs.States.{states_of, HaveBlocks};
 
@@ -44,7 +45,7 @@ pub fn add_at_key<F: Fold>(
     Ok(())
 }
 
-/// The same at a pane and the group of the tuple by some places. Its key is made only where it has no state yet.
+/// Adds a tuple to the state of its group, by the fields `by`, in `pane`. The key is built only for a new group.
 pub fn add_at_places<F: Fold>(
     alloc: Global,
     fold: &F,

@@ -4,12 +4,14 @@ ghost use Rattle.std.specs.Prelude.{◌≡◌, ℕ, ◌+◌, ◌-◌, ◌^◌, �
 ghost use Rattle.std.specs.Ordering.{nat_cmp};
 ghost use Rattle.std.specs.List.{AllByRecursion, filter};
 ghost use Rattle.sq_aggfn.specs.KeyedStates.{added};
-ghost use Rattle.sq_pane.specs.Blocks.{joined_onto, IsJoin, AreBlocks, begins_before};
-ghost use Rattle.sq_pane.specs.Panes.{NumbersRise, Rises-prop, shift_of, within, joined_within, total, AllAreMade, IsMadeIf};
+ghost use Rattle.sq_pane.specs.Blocks.{IsJoin, AreBlocks, begins_before};
+ghost use Rattle.sq_rows.specs.Rows.{total, AllAreMade};
+ghost use Rattle.sq_pane.specs.Panes.{NumbersRise, Rises-prop, shift_of, within, joined_within, IsMadeIf};
 ghost use Rattle.sq_aggfn.specs.Folds.{number_if};
 
 use crate::joined::Joined;
 use sq_aggfn::{Fold, WindowSpec};
+use sq_rows::take_in_row;
 use sq_value::Tuple;
 use std::alloc::{AllocError, Global};
 use std::collections::VecDeque;
@@ -66,6 +68,40 @@ fn add_state<F: Fold>(
     Ok(())
 }
 
+/// Whether the last state is that of a pane.
+#[inline(always)]
+fn ends_at<S>(states: &VecDeque<(u64, S)>, pane: u64) -> bool
+    ensures some { result ≡ true → 0 < length states.now.items }
+    ensures last { (d : ℕ × S) → result ≡ true → (get_or states.now.items (length states.now.items - 1) d).0 ≡ pane }
+{
+    match states.back() {
+        Some(entry) => entry.0 == pane,
+        None => false,
+    }
+}
+
+/// The last state becomes its join with that of a tuple of its pane, in place; after want of memory nothing changed.
+#[inline(always)]
+fn add_to_last<F: Fold>(
+    fold: &F,
+    states: &mut VecDeque<(u64, F::State)>,
+    t: &Tuple,
+) -> Result<(), AllocError>
+    requires some { 0 < length states.old.items }
+    requires rises { NumbersRise states.old.items }
+    requires made { AllAreMade (F.made fold.now) states.old.items }
+    requires few { total (F.number fold.now) states.old.items + 1 < 2 ^ 62 }
+    ensures added { OnOk result ((pane : ℕ) → ((d : ℕ × F.State) → (get_or states.old.items (length states.old.items - 1) d).0 ≡ pane)
+        → states.new.items ≡ added nat_cmp (F.none fold.now) (F.joined fold.now) pane (F.unit fold.now t.now) states.old.items) }
+    ensures rises { NumbersRise states.new.items }
+    ensures made { OnOk result (AllAreMade (F.made fold.now) states.new.items) }
+    ensures total { OnOk result (total (F.number fold.now) states.new.items ≡ total (F.number fold.now) states.old.items + 1) }
+    ensures err { OnErr result (states.new.items ≡ states.old.items) }
+{
+    let last = states.len() - 1;
+    fold.add(&mut states[last].1, t)
+}
+
 /// Whether the last state is that of a pane after another.
 fn ends_past<S>(states: &VecDeque<(u64, S)>, pane: u64) -> bool
     ensures { (d : ℕ × S) → result ≡ false → 0 < length states.now.items → (get_or states.now.items (length states.now.items - 1) d).0 ≤ pane }
@@ -112,7 +148,7 @@ fn grow_blocks<F: Fold>(fold: &F, line: &mut Line<F::State>) -> Result<(), Alloc
     Ok(())
 }
 
-/// Before a tuple is added to a pane: one more block is joined, and none stays where a later pane has a state.
+/// Before a tuple is added to a pane that isn't the last: one more block is joined, and none stays where a later pane has a state.
 fn ready_blocks<F: Fold>(fold: &F, line: &mut Line<F::State>, pane: u64) -> Result<(), AllocError>
     requires made { AllAreMade (F.made fold.now) line.old.states.items }
     requires few { total (F.number fold.now) line.old.states.items < 2 ^ 62 }
@@ -129,7 +165,8 @@ fn ready_blocks<F: Fold>(fold: &F, line: &mut Line<F::State>, pane: u64) -> Resu
     grow_blocks(fold, line)
 }
 
-/// The state of a pane becomes its join with that of a tuple, in place; after want of memory nothing changed.
+/// The state of a pane becomes its join with that of a tuple, in place; after want of memory nothing changed. Most tuples fall into
+/// the last pane: there no state is sought, and the blocks stay as they are.
 pub fn add_to_line<F: Fold>(
     fold: &F,
     line: &mut Line<F::State>,
@@ -145,6 +182,9 @@ pub fn add_to_line<F: Fold>(
     ensures blocks { AreBlocks 64 (IsJoin (F.none fold.now) (F.joined fold.now) (F.made fold.now) (F.number fold.now)) line.old.blocks.items (drop line.old.ahead line.old.states.items)
         → AreBlocks 64 (IsJoin (F.none fold.now) (F.joined fold.now) (F.made fold.now) (F.number fold.now)) line.new.blocks.items (drop line.new.ahead line.new.states.items) }
 {
+    if ends_at(&line.states, pane) {
+        return add_to_last(fold, &mut line.states, t);
+    }
     ready_blocks(fold, line, pane)?;
     add_state(fold, &mut line.states, pane, t)
 }
@@ -300,29 +340,6 @@ fn end_within<S>(
         end -= 1;
     }
     end
-}
-
-/// Some states in a row are joined to a state, in place.
-fn take_in_row<F: Fold>(
-    fold: &F,
-    own: &mut F::State,
-    states: &VecDeque<(u64, F::State)>,
-    from: usize,
-    to: usize,
-) -> Result<(), AllocError>
-    requires order { from ≤ to }
-    requires room { to ≤ length states.now.items }
-    requires made { F.made fold.now own.old × AllAreMade (F.made fold.now) states.now.items }
-    requires few { F.number fold.now own.old + total (F.number fold.now) (drop from states.now.items) < 2 ^ 62 }
-    ensures value { OnOk result (own.new ≡ joined_onto (F.joined fold.now) own.old (take (to - from) (drop from states.now.items))) }
-    ensures made { OnOk result (F.made fold.now own.new) }
-    ensures few { OnOk result (F.number fold.now own.new + total (F.number fold.now) (drop to states.now.items)
-        ≤ F.number fold.now own.old + total (F.number fold.now) (drop from states.now.items)) }
-{
-    for i in from..to {
-        fold.take_in(own, &states[i].1)?;
-    }
-    Ok(())
 }
 
 /// Of some states in a row those that the window that starts at a tick covers are joined to a state, in place. They stand

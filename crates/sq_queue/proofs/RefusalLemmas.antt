@@ -2,9 +2,9 @@
 use Rattle.std.proofs.Common.{◌≡◌, ℕ, sym, subst, ◌∙◌}
 use Rattle.std.specs.Prelude.{Result, Ok, Err, IfErr, IsErr, IsErrAnd, OnOk}
 use Rattle.sq_outside.specs.Disks.{DiskLog}
-use Rattle.sq_paged.specs.KeptPages.{IsTold, NoMisfit}
-use Rattle.sq_paged.specs.declared.store.QueueErr.{QueueErr}
-use Rattle.sq_paged.specs.declared.store.QueueErr.TheVariants as error
+use Rattle.sq_bring.specs.Bringing.{IsTold, NoMisfit}
+use Rattle.sq_bring.specs.declared.bring.QueueErr.{QueueErr}
+use Rattle.sq_bring.specs.declared.bring.QueueErr.TheVariants as error
 use Rattle.sq_queue.specs.Faces.{IsRefusal}
 use Rattle.sq_queue.specs.declared.Queues.{Queues}
 

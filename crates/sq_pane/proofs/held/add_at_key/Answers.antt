@@ -7,7 +7,7 @@ use Rattle.sq_value.specs.declared.Value.{Value}
 use Rattle.sq_value.specs.Values.{fields_cmp}
 use Rattle.sq_value.proofs.ValueOrder.{fields_order}
 use Rattle.sq_aggfn.proofs.KeyedLemmas.{ascends}
-use Rattle.sq_pane.specs.Panes.{total, AllAreMade}
+use Rattle.sq_rows.specs.Rows.{total, AllAreMade}
 use Rattle.sq_pane.specs.Blocks.{IsJoin, AreBlocks}
 use Rattle.sq_pane.specs.States.{states_of, HaveBlocks}
 use Rattle.sq_pane.proofs.BlockLemmas.{no_blocks}

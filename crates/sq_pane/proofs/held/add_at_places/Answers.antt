@@ -6,7 +6,8 @@ use Rattle.sq_value.specs.Values.{fields_cmp}
 use Rattle.sq_value.proofs.ValueOrder.{fields_order}
 use Rattle.sq_aggfn.specs.KeyedStates.{added}
 use Rattle.sq_aggfn.proofs.KeyedLemmas.{ascends}
-use Rattle.sq_pane.specs.Panes.{key_cmp, total, AllAreMade}
+use Rattle.sq_pane.specs.Panes.{key_cmp}
+use Rattle.sq_rows.specs.Rows.{total, AllAreMade}
 use Rattle.sq_pane.specs.Blocks.{IsJoin, AreBlocks}
 use Rattle.sq_pane.specs.States.{states_of, HaveBlocks}
 use Rattle.sq_pane.proofs.StateLemmas.{states_set, states_same, line_found, lines_set, made_found, made_states_set, total_found, total_states_set}

@@ -3,13 +3,14 @@ use Rattle.std.proofs.lemmas.List.{drop_all}
 use Rattle.std.specs.Map.Iter.{deref_pair}
 use Rattle.sq_value.specs.declared.Value.{Value}
 use Rattle.sq_pane.specs.declared.line.Line.{Line}
-use Rattle.sq_pane.specs.Panes.{group_entry, joined_within, lent_group, total, AllAreMade}
+use Rattle.sq_pane.specs.Panes.{group_entry, joined_within, lent_group}
+use Rattle.sq_rows.specs.Rows.{total, AllAreMade}
 use Rattle.sq_pane.specs.Blocks.{IsJoin}
 use Rattle.sq_pane.specs.States.{states_of, HaveBlocks}
 use Rattle.sq_value.specs.Values.{fields_cmp}
 use Rattle.sq_value.proofs.ValueOrder.{fields_order}
 use Rattle.sq_aggfn.proofs.KeyedLemmas.{ascends}
-use Rattle.sq_pane.proofs.LineLemmas.{drop_at}
+use Rattle.sq_rows.proofs.RowLemmas.{drop_at}
 use Rattle.sq_pane.proofs.StateLemmas.{window_is_groups, made_parts, total_parts, pushed_made, pushed_total}
 use Rattle.sq_pane.proofs.held.groups_at.Goals as goal
 use Rattle.sq_pane.proofs.StateWords.{groups_within}

@@ -1,6 +1,7 @@
 use Rattle.std.proofs.Common.{◌≡◌, ◌+◌, ◌≤◌, ◌++◌, true, map, drop}
 use Rattle.std.specs.Map.Iter.{deref_pair}
-use Rattle.sq_pane.specs.Panes.{total, AllAreMade, lent_group}
+use Rattle.sq_pane.specs.Panes.{lent_group}
+use Rattle.sq_rows.specs.Rows.{total, AllAreMade}
 use Rattle.sq_pane.specs.Blocks.{IsJoin}
 use Rattle.sq_pane.specs.States.{states_of, HaveBlocks}
 use Rattle.sq_pane.proofs.held.groups_at.Given as goal

@@ -1,8 +1,10 @@
 use Rattle.std.proofs.Common.{◌≡◌, ℕ, ◌+◌, ◌-◌, ◌<◌, ◌≤◌, ◌⊎◌, inl, inr, length, get_or, set, ap, sym, subst, ◌∙◌, arith}
 use Rattle.std.specs.List.{insert}
 use Rattle.std.proofs.lemmas.Result.{on_ok_weaker, on_err_weaker}
-use Rattle.sq_pane.specs.Panes.{NumbersRise, total, AllAreMade}
-use Rattle.sq_pane.proofs.LineLemmas.{same_at, set_same, rises_set, rises_put, made_set, made_insert, made_at, total_at, total_set, total_insert, set_is_put, insert_is_put}
+use Rattle.sq_pane.specs.Panes.{NumbersRise}
+use Rattle.sq_rows.specs.Rows.{total, AllAreMade}
+use Rattle.sq_pane.proofs.LineLemmas.{same_at, set_same, rises_set, rises_put, made_set, made_insert, total_at, total_set, total_insert, set_is_put, insert_is_put}
+use Rattle.sq_rows.proofs.RowLemmas.{made_at}
 use Rattle.sq_pane.proofs.line.add_state.Goals as goal
 use Rattle.sq_pane.proofs.line.add_state.Goals.{else-count-gt0-via-then-count-gt0+else-index-pane, else-count-gt0-via-else-count-gt0}
 

@@ -1,8 +1,7 @@
 use Rattle.std.proofs.Common.{◌≡◌, ℕ, ◌+◌, ◌-◌, ◌<◌, take, drop, ap, ap₂, sym, ◌∙◌, arith}
-use Rattle.sq_pane.specs.Panes.{total}
-use Rattle.sq_pane.specs.Blocks.{joined_onto}
-use Rattle.sq_pane.proofs.LineLemmas.{made_at}
-use Rattle.sq_pane.proofs.BlockLemmas.{run_next, total_split}
+use Rattle.sq_rows.specs.Rows.{total, joined_onto}
+use Rattle.sq_rows.proofs.RowLemmas.{made_at, run_next}
+use Rattle.sq_pane.proofs.BlockLemmas.{total_split}
 use Rattle.sq_pane.proofs.line.block_at.Goals as goal
 
 pub loop-i-init : goal.loop-i-init

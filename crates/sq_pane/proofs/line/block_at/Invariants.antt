@@ -1,6 +1,5 @@
 use Rattle.std.proofs.Common.{◌≡◌, ◌+◌, ◌-◌, ◌≤◌, take, drop}
-use Rattle.sq_pane.specs.Panes.{total}
-use Rattle.sq_pane.specs.Blocks.{joined_onto}
+use Rattle.sq_rows.specs.Rows.{total, joined_onto}
 use Rattle.sq_pane.proofs.line.block_at.Given as goal
 
 abbrev pub invariant-loop-i : goal.invariant-loop-i

@@ -1,5 +1,6 @@
 use Rattle.std.proofs.Common.{◌≡◌, ◌+◌, ◌≤◌, None, length, drop}
-use Rattle.sq_pane.specs.Panes.{joined_within, total, IsMadeIf}
+use Rattle.sq_pane.specs.Panes.{joined_within, IsMadeIf}
+use Rattle.sq_rows.specs.Rows.{total}
 use Rattle.sq_pane.specs.Blocks.{IsJoin, AreBlocks}
 use Rattle.sq_pane.proofs.line.joined_by_blocks.Given as goal
 use Rattle.sq_aggfn.specs.Folds.{number_if}

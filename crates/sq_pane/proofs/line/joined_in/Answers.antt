@@ -2,9 +2,10 @@ use Rattle.std.proofs.Common.{◌≡◌, ℕ, ◌+◌, ◌<◌, Some, None, true
 use Rattle.std.specs.Prelude.{◌==◌}
 use Rattle.std.proofs.lemmas.List.{drop_all}
 use Rattle.sq_aggfn.specs.Folds.{number_if}
-use Rattle.sq_pane.specs.Panes.{within, joined_within, total}
+use Rattle.sq_pane.specs.Panes.{within, joined_within}
+use Rattle.sq_rows.specs.Rows.{total}
 use Rattle.sq_pane.specs.Blocks.{IsJoin}
-use Rattle.sq_pane.proofs.LineLemmas.{drop_at, made_at}
+use Rattle.sq_rows.proofs.RowLemmas.{drop_at, made_at}
 use Rattle.sq_pane.proofs.BlockLemmas.{blocks_within, next_joined, total_later}
 use Rattle.sq_pane.proofs.line.joined_in.Goals as goal
 

@@ -1,6 +1,7 @@
 use Rattle.std.proofs.Common.{◌≡◌, ℕ, ◌+◌, ◌<◌, ◌≤◌, Some, None, true, length, drop, ap, sym, subst, ◌∙◌, arith}
-use Rattle.sq_pane.specs.Panes.{within, joined_within, total}
-use Rattle.sq_pane.proofs.LineLemmas.{drop_at, made_at}
+use Rattle.sq_pane.specs.Panes.{within, joined_within}
+use Rattle.sq_rows.specs.Rows.{total}
+use Rattle.sq_rows.proofs.RowLemmas.{drop_at, made_at}
 use Rattle.sq_pane.proofs.BlockLemmas.{covered_behind, covered_between, next_joined, row_taken, total_later}
 use Rattle.sq_pane.proofs.line.joined_of.Goals as goal
 

@@ -1,6 +1,7 @@
 use Rattle.std.proofs.Common.{ℕ, ◌+◌, drop, refl, ap, sym, ◌∙◌, arith}
 use Rattle.std.proofs.lemmas.Result.{IfOk-weaker}
-use Rattle.sq_pane.specs.Panes.{joined_within, total}
+use Rattle.sq_pane.specs.Panes.{joined_within}
+use Rattle.sq_rows.specs.Rows.{total}
 use Rattle.sq_pane.proofs.BlockLemmas.{drop_add, all_mapped, total_split, block_covered, shaped_if}
 use Rattle.sq_pane.proofs.line.with_block.Goals as goal
 

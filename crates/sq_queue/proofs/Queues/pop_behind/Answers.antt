@@ -105,7 +105,7 @@ returns-clause-items g c tells =
     let new = popped_lane lane behind in
     let was = slice_get_read q.lanes.items _ arc lane refl c.requires.there c.index_mut-lane.ensures.value in
     let empty = ap front_at (sym was) ∙ c.requires.empty in
-    let r : Queues = record { lanes = with_item q.lanes arc new; paged = c.pop.new.self } in
+    let r : Queues = record { lanes = with_item q.lanes arc new; paged = c.pop.new.self; spares = tt } in
     let told = known (g.D.PageDisk.log c.args.disk.now) in
     let now = known (g.D.PageDisk.log c.pop.new.disk) in
     taken-items q told r now arc lane new c.in-Ok.item c.requires.there was refl
@@ -122,7 +122,7 @@ pub returns-clause-others : goal.returns-clause-others
 returns-clause-others g c tells other differ =
     let q = c.args.self.now in
     let new = popped_lane c.index_mut-lane.result.now c.time_of-behind.result in
-    let r : Queues = record { lanes = with_item q.lanes c.args.arc new; paged = c.pop.new.self } in
+    let r : Queues = record { lanes = with_item q.lanes c.args.arc new; paged = c.pop.new.self; spares = tt } in
     other-items q (known (g.D.PageDisk.log c.args.disk.now)) r (known (g.D.PageDisk.log c.pop.new.disk)) c.args.arc other new refl differ (c.in-Ok.ensures.others tells other differ)
 
 pub returns-clause-disk : goal.returns-clause-disk
@@ -144,7 +144,7 @@ returns-clause-together g c =
     let lane = c.index_mut-lane.result.now in
     let behind = c.time_of-behind.result in
     let new = popped_lane lane behind in
-    let r : Queues = record { lanes = with_item q.lanes arc new; paged = c.pop.new.self } in
+    let r : Queues = record { lanes = with_item q.lanes arc new; paged = c.pop.new.self; spares = tt } in
     let after = pages.paged_face c.pop.new.self arc in
     written-together q _ r _ arc lane new c.requires.together c.in-Ok.ensures.together c.in-Ok.ensures.size c.requires.there
     (slice_get_read q.lanes.items _ arc lane refl c.requires.there c.index_mut-lane.ensures.value) refl c.in-Ok.ensures.faces

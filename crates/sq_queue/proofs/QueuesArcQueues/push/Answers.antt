@@ -227,7 +227,7 @@ returns-clause-items g c tells =
     let arc = c.args.arc in
     let lane = c.index_mut-lane.result.now in
     let new : Lane = record lane { count = c.in-Some.count; behind = Some c.unwrap_or.result } in
-    let r : Queues = record { lanes = with_item q.lanes arc new; paged = c.push.new.self } in
+    let r : Queues = record { lanes = with_item q.lanes arc new; paged = c.push.new.self; spares = tt } in
     let more : List Item = c.args.item.now ∷ [] in
     written-items q (known (g.D.PageDisk.log c.args.disk.now)) r (known (g.D.PageDisk.log c.push.new.disk)) arc lane new more c.requires.there (slice_get_read q.lanes.items _ arc lane refl c.requires.there c.index_mut-lane.ensures.value) refl
     (ap (λ (xs : List Item). lane.front.items ++ xs) (c.in-Ok.ensures.items tells) ∙ sym (append_assoc lane.front.items (pages.paged_items_on q.paged (known (g.D.PageDisk.log c.args.disk.now)) arc) more))
@@ -236,7 +236,7 @@ pub returns-clause-others : goal.returns-clause-others
 returns-clause-others g c tells other differ =
     let q = c.args.self.now in
     let new : Lane = record c.index_mut-lane.result.now { count = c.in-Some.count; behind = Some c.unwrap_or.result } in
-    let r : Queues = record { lanes = with_item q.lanes c.args.arc new; paged = c.push.new.self } in
+    let r : Queues = record { lanes = with_item q.lanes c.args.arc new; paged = c.push.new.self; spares = tt } in
     other-items q (known (g.D.PageDisk.log c.args.disk.now)) r (known (g.D.PageDisk.log c.push.new.disk)) c.args.arc other new refl differ (c.in-Ok.ensures.others tells other differ)
 
 pub returns-clause-together : goal.returns-clause-together
@@ -245,7 +245,7 @@ returns-clause-together g c =
     let arc = c.args.arc in
     let lane = c.index_mut-lane.result.now in
     let new : Lane = record lane { count = c.in-Some.count; behind = Some c.unwrap_or.result } in
-    let r : Queues = record { lanes = with_item q.lanes arc new; paged = c.push.new.self } in
+    let r : Queues = record { lanes = with_item q.lanes arc new; paged = c.push.new.self; spares = tt } in
     written-together q _ r _ arc lane new c.requires.together c.in-Ok.ensures.together c.in-Ok.ensures.size c.requires.there
     (slice_get_read q.lanes.items _ arc lane refl c.requires.there c.index_mut-lane.ensures.value) refl c.in-Ok.ensures.faces
     (λ own. pushed-behind lane new c.args.item.now.time (pages.paged_face q.paged arc) (pages.paged_face c.push.new.self arc) own c.in-Ok.ensures.face refl refl c.in-Some.ensures.1 (ap (λ (n : ℕ). Some n) c.unwrap_or.ensures))

@@ -2,7 +2,8 @@ use Rattle.std.proofs.Common.{◌≡◌, drop, map}
 use Rattle.std.specs.Ordering.{is_eq}
 use Rattle.std.specs.Map.{lookup}
 use Rattle.sq_value.specs.Values.{fields_cmp}
-use Rattle.sq_pane.specs.Panes.{AllAreMade, lent_group}
+use Rattle.sq_pane.specs.Panes.{lent_group}
+use Rattle.sq_rows.specs.Rows.{AllAreMade}
 use Rattle.sq_pane.proofs.panes.Panes.answer.Given as goal
 
 abbrev pub invariant-loop-key : goal.invariant-loop-key

@@ -1,0 +1,63 @@
+// Vectors of values that are done with, kept to be used again.
+ghost use Rattle.std.specs.Prelude.{◌≡◌, []};
+
+use sq_item::Item;
+use sq_value::{Fields, Value};
+use std::alloc::{AllocError, Global};
+use std::marker::Model;
+
+// How many are kept at most.
+const MOST: usize = 64;
+
+/// Vectors of values that were let go, so that the next values need no memory. Which are kept is nobody's concern: contracts see
+/// the same always.
+#[derive(Drop)]
+pub struct Spares {
+    vectors: Vec<Vec<Value>>,
+}
+
+impl Model for Spares {
+    ghost Value = { Unit {0} };
+
+    ghost view = { λ s. tt };
+}
+
+impl Spares {
+    /// None is kept yet; there is room for all.
+    pub fn new(alloc: Global) -> Result<Spares, AllocError> {
+        let vectors = Vec::with_capacity(alloc, MOST)?;
+        Ok(Spares { vectors })
+    }
+
+    /// Lets values go, and keeps their vector where there is room.
+    #[inline(always)]
+    pub fn keep(&mut self, fields: Fields) {
+        let mut values = fields.into_vec();
+        values.clear();
+        if self.vectors.len() < self.vectors.capacity() {
+            self.vectors.push_reserved(values);
+        }
+    }
+
+    /// The same of an item's values.
+    #[inline(always)]
+    pub fn keep_item(&mut self, item: Item) {
+        if let Some(fields) = item.body.get() {
+            self.keep(fields);
+        }
+    }
+
+    /// A vector without values: one that is kept, or else one that has no memory yet.
+    #[inline(always)]
+    pub fn reuse(&mut self, alloc: Global) -> Vec<Value>
+        ensures { result.items ≡ [] }
+    {
+        match self.vectors.pop() {
+            Some(mut values) => {
+                values.clear();
+                values
+            }
+            None => Vec::new(alloc),
+        }
+    }
+}
