@@ -1,7 +1,12 @@
 -- What a run that is done has shown, fed and lost.
-use Rattle.std.proofs.Common.{◌≡◌, ℕ, ◌+◌, ◌<◌, true, None, refl, List, [], ◌∷◌, ◌++◌, length, Option, Some, slice_get, ap, sym, ◌∙◌, arith, append-nil}
+use Rattle.std.proofs.Common.{◌≡◌, ℕ, suc, ◌+◌, ◌-◌, ◌/◌, ◌<◌, max, true, None, refl, List, [], ◌∷◌, ◌++◌, map, length, Option, Some, slice_get, ap, sym, ◌∙◌, arith, append-nil}
+use Rattle.std.specs.List.{flat_map, range_with_len}
 use Rattle.std.specs.Option.{option_map}
-use Rattle.std.proofs.lemmas.Option.{slice_get-map}
+use Rattle.std.proofs.lemmas.Option.{slice_get-map, slice_get_past}
+use Rattle.sq_value.specs.declared.Tuple.{Tuple}
+use Rattle.sq_words.specs.Lists.{max_by}
+use Rattle.sq_plan.specs.PlanRows.{shown_after}
+use Rattle.sq_replay.specs.RecordedTuples.{Recorded}
 use Rattle.sq_outside.specs.Disks.{Pages}
 use Rattle.sq_graph.specs.Wires.{arcs_of, input_arcs_of}
 use Rattle.sq_oper.specs.declared.outs.Event.{Event}
@@ -24,38 +29,21 @@ use Rattle.sq_start.specs.Starts.{IsReadReplay}
 use Rattle.sq_start.proofs.NumberLemmas.{box-at}
 use Rattle.sq_pool.specs.Trust.{Tells}
 use Rattle.sq_flow.specs.Events.{lines_of, drops_of}
-use Rattle.sq_flow.specs.Plans.{plans_of, plans_left}
-use Rattle.sq_flow.specs.Wiring.{net_of, arcs_read}
+use Rattle.sq_flow.specs.Plans.{counts_of, last_arrival, plans_left, plans_of, streams_left}
+use Rattle.sq_flow.specs.Wiring.{net_of}
 use Rattle.sq_actor.specs.declared.actor.Actor.{Actor}
 use Rattle.sq_actor.proofs.LateLemmas.{late-lost}
 use Rattle.sq_flow.specs.declared.flow.Flow.{Flow}
 use Rattle.sq_flow.specs.declared.seats.Seat.{Seat}
-use Rattle.sq_flow.specs.Seats.{taken_at, lost_at, done_at, holds_at, IsSeat}
+use Rattle.sq_flow.specs.Seats.{lost_at, done_at, holds_at, IsSeat}
 use Rattle.sq_flow.specs.Engines.{AllDone}
-use Rattle.sq_flow.specs.Flows.{items_in, IsFlow, HoldsItems, fed_on, left_on, lines_left, decisions_left, fed_at_last, lost_at_last, work_at_last, taken_in_all}
+use Rattle.sq_flow.specs.Flows.{IsFlow, fed_on, tuples_to_come}
 use Rattle.sq_core.specs.declared.engine.Engine.{Engine}
 use Rattle.sq_core.specs.Meanings.{actors}
-use Rattle.sq_core.specs.Runs.{IsSoundEngine, IsRun, late_in, ShownAll}
-use Rattle.sq_core.proofs.PlanLemmas.{no-plans}
+use Rattle.sq_core.specs.Runs.{IsSoundEngine, IsRun, NothingLeft, ShownAll, late_in}
 use Rattle.sq_core.proofs.RunLemmas.{shown-in, shed-in, box-in}
 use Rattle.sq_core.proofs.TableLemmas.{input-low}
 use Rattle.sq_words.proofs.Bools.{not_true}
-
--- nothing is left of any output and any arc, and each operator was fed, and has lost, all that it is fed and loses in all
-pub record NothingLeft (e : Engine) : Type 0 where
-  pub lines : (pages : Option Pages) (table : ℕ → ℕ → ℕ) → HoldsItems actors table (items_in e.engine.flow pages) e.engine.flow
-      → (output : ℕ) → e.engine.flow.wires.shown + output < length e.engine.flow.seats.items → lines_left actors table (items_in e.engine.flow pages) e.engine.flow output ≡ []
-  pub drops : (pages : Option Pages) (table : ℕ → ℕ → ℕ) → HoldsItems actors table (items_in e.engine.flow pages) e.engine.flow
-      → (actor : ℕ) → actor < length e.engine.flow.seats.items → decisions_left actors table (items_in e.engine.flow pages) e.engine.flow actor ≡ []
-  pub fed : (pages : Option Pages) (table : ℕ → ℕ → ℕ) → HoldsItems actors table (items_in e.engine.flow pages) e.engine.flow
-      → (actor : ℕ) → actor < length e.engine.flow.seats.items → fed_at_last actors table (items_in e.engine.flow pages) e.engine.flow actor ≡ taken_at actors (slice_get e.engine.flow.seats.items actor)
-  pub lost : (pages : Option Pages) (table : ℕ → ℕ → ℕ) → HoldsItems actors table (items_in e.engine.flow pages) e.engine.flow
-      → (actor : ℕ) → actor < length e.engine.flow.seats.items → lost_at_last actors table (items_in e.engine.flow pages) e.engine.flow actor ≡ lost_at actors (slice_get e.engine.flow.seats.items actor) []
-  pub work : (pages : Option Pages) (table : ℕ → ℕ → ℕ) → HoldsItems actors table (items_in e.engine.flow pages) e.engine.flow
-      → work_at_last actors table (items_in e.engine.flow pages) e.engine.flow ≡ taken_in_all actors e.engine.flow
-  pub arcs : (pages : Option Pages) (table : ℕ → ℕ → ℕ) → HoldsItems actors table (items_in e.engine.flow pages) e.engine.flow
-      → (actor port arc : ℕ) → actor < length e.engine.flow.seats.items → slice_get (arcs_read e.engine.flow.wires actor) port ≡ Some arc → left_on actors table (items_in e.engine.flow pages) e.engine.flow arc ≡ []
-  pub plans : plans_left e.engine.flow ≡ []
 
 -- a finished operator is late with all that it loses
 late-seat : (flow : Flow Actor) → IsFlow actors flow → AllDone flow → (actor : ℕ) → actor < length flow.seats.items → late_in (slice_get flow.seats.items actor) ≡ lost_at actors (slice_get flow.seats.items actor) []
@@ -65,15 +53,21 @@ late-seat flow is done actor low = by (slice_get flow.seats.items actor) (is.sea
     by None h d = refl
     by (Some seat) h d = late-lost seat.op h.arcs.is_valid (h.running ∙ not_true seat.tally.running d)
 
+none-left : (sources : List Recorded) → ((source : ℕ) → tuples_to_come (slice_get sources source) ≡ []) → (epoch : ℕ) → last_arrival epoch (map (λ tuples. tuples.items) sources) ≡ 0
+none-left [] none epoch = refl
+none-left (tuples ∷ sources) none epoch =
+    ap (λ xs. max (max_by (λ (x : Tuple). x.time / epoch) xs) (last_arrival epoch (map (λ tuples. tuples.items) sources))) (none 0)
+    ∙ ap (λ k. max 0 k) (none-left sources (λ source. none (suc source)) epoch)
+
 -- where all is done nothing is to be released, so nothing is planned
 pub nothing-planned : (e : Engine) → IsSoundEngine e → AllDone e.engine.flow → plans_left e.engine.flow ≡ []
 nothing-planned e sound done =
     let flow = e.engine.flow in
-    no-plans flow (sound.engine.flow.replay.ends (sym (ap (done_at flow.over) (none-past flow.seats.items)) ∙ done (length flow.seats.items) (omega arith)))
-  where
-    none-past : (xs : List (Seat Actor)) → slice_get xs (length xs) ≡ None
-    none-past [] = refl
-    none-past (x ∷ xs) = none-past xs
+    let past = slice_get_past flow.seats.items (length flow.seats.items) (omega arith) in
+    let none = sound.engine.flow.replay.ends (sym (ap (done_at flow.over) past) ∙ done (length flow.seats.items) (omega arith)) in
+    let last = none-left flow.sources.items none flow.levels.epoch in
+    let z : last_arrival flow.levels.epoch (streams_left flow) - (flow.levels.closed - 1) ≡ 0 = omega (arith, last) in
+    ap (λ k. flat_map (shown_after flow.planner (counts_of flow)) (range_with_len (flow.levels.closed - 1) k)) z
 
 -- the tuples of what an arc's giver gives are those that are kept
 kept-given : (r : Replay) → IsReadReplay r → StreamsFollow r → (a : ℕ) → a < length (arcs_of r.network.wires) → tuples_in (stream_of r (arc_from r.network a)) ≡ kept_of r a

@@ -1,21 +1,22 @@
 -- One more arc keeps what holds of the arcs that stand.
 use Rattle.std.proofs.Common.{◌≡◌, ◌≢◌, ℕ, zero, suc, ◌+◌, ◌*◌, ◌<◌, ◌≤◌, eqb, cond, Bool, true, false, ◌||◌, List, [], ◌∷◌, ◌++◌, length, Option, Some, Vec, slice_get, refl, ap, sym, ◌∙◌, subst, arith, inl, inr, ◌⊎◌}
 use Rattle.std.specs.declared.alloc.Global.{Global}
-use Rattle.std.proofs.lemmas.Bool.{cases_lt, cases_eq}
+use Rattle.std.proofs.lemmas.Bool.{cases_lt, cases_eq, or_left, or_right}
+use Rattle.std.proofs.lemmas.Map.Views.{exact_unsigned_eq}
+use Rattle.std.proofs.lemmas.Option.{slice_get_within}
+use Rattle.sq_words.specs.Lists.{contains_number}
+use Rattle.sq_words.proofs.Bools.{or_cases, or_false}
+use Rattle.sq_words.proofs.Lists.{contains_append, contains_middle, get_next}
+use Rattle.sq_words.proofs.Numbers.{eqb_true}
 use Rattle.sq_left.proofs.MergeLemmas.{eqb-not}
 use Rattle.sq_flow.specs.declared.wires.Arc.{Arc}
 use Rattle.sq_flow.specs.declared.wires.Wires.{Wires}
 use Rattle.sq_flow.specs.Wiring.{numbers_in, rows_in, arcs_read, arcs_from, followers_of, Climbs, from_of, arc_port, to_of, arc_place, times_in}
+use Rattle.sq_flow.proofs.SendLemmas.{times-append}
 use Rattle.sq_core.specs.declared.join.Feed.{Feed}
 use Rattle.sq_core.specs.Joining.{feeds_of, IsGiver, AreFeeds, IsOf, AddsArc, IsJoining, Fixed, once_more}
-use Rattle.sq_words.specs.Lists.{contains_number}
-use Rattle.sq_words.proofs.Numbers.{eqb_true}
 
 -- the item at a place of a list with one more
-pub get-last : {A : Type 0} (xs : List A) (x : A) → slice_get (xs ++ x ∷ []) (length xs) ≡ Some x
-get-last [] x = refl
-get-last (y ∷ xs) x = get-last xs x
-
 pub get-front : {A : Type 0} (xs : List A) (x : A) (i : ℕ) → i < length xs → slice_get (xs ++ x ∷ []) i ≡ slice_get xs i
 get-front [] x i h = absurd (omega (arith, h))
 get-front (y ∷ xs) x zero h = refl
@@ -35,9 +36,25 @@ pub length_more : {A : Type 0} (xs : List A) (x : A) → length (xs ++ x ∷ [])
 length_more [] x = refl
 length_more (y ∷ xs) x = (let h = length_more xs x in omega (arith, h))
 
-times-more : (a k : ℕ) (xs : List ℕ) → times_in a (xs ++ k ∷ []) ≡ times_in a xs + cond (eqb k a) 1 0
-times-more a k [] = omega arith
-times-more a k (x ∷ xs) = (let h = times-more a k xs in omega (arith, h))
+-- how often an arc stands in a row that may have one more, and what stands there
+times-cell : (a k : ℕ) (b c : Bool) (xs : List ℕ) → times_in a (cond b (cond c (xs ++ k ∷ []) xs) xs) ≡ times_in a xs + cond b (cond c (cond (eqb k a) 1 0) 0) 0
+times-cell a k true true xs = times-append a xs k
+times-cell a k true false xs = omega arith
+times-cell a k false c xs = omega arith
+
+none-said : (b c : Bool) → ◌≡◌ {A = ℕ} (cond b (cond c 0 0) 0) 0
+none-said true true = refl
+none-said true false = refl
+none-said false c = refl
+
+get-cell : (k : ℕ) (b c : Bool) (xs : List ℕ) (p a : ℕ) → slice_get (cond b (cond c (xs ++ k ∷ []) xs) xs) p ≡ Some a → (slice_get xs p ≡ Some a) ⊎ (k ≡ a)
+get-cell k true true xs p a is =
+    elim (get-cases xs k p a is) [
+      | inl old ↦ inl old
+      | inr new ↦ inr new.1
+    ]
+get-cell k true false xs p a is = inl is
+get-cell k false c xs p a is = inl is
 
 times-none : (k : ℕ) (xs : List ℕ) → ((place x : ℕ) → slice_get xs place ≡ Some x → x < k) → times_in k xs ≡ 0
 times-none k [] low = refl
@@ -62,33 +79,12 @@ rows_bare (x ∷ xs) v is (suc r) = rows_bare xs v is r
 
 -- ---- a list with one more number, once
 
-is-there : (xs : List ℕ) (x : ℕ) → contains_number (xs ++ x ∷ []) x ≡ true
-is-there [] x = ap (λ b. b || false) (eqb_true x x refl)
-is-there (y ∷ xs) x = ap (λ b. eqb y x || b) (is-there xs x) ∙ or-true (eqb y x)
-  where
-    or-true : (b : Bool) → (b || true) ≡ true
-    or-true true = refl
-    or-true false = refl
-
-stays-there : (xs : List ℕ) (x y : ℕ) → contains_number xs y ≡ true → contains_number (xs ++ x ∷ []) y ≡ true
-stays-there [] x y h = cc h
-stays-there (z ∷ xs) x y h = by (λ k. stays-there xs x y k) (eqb z y) h
-  where
-    by : (contains_number xs y ≡ true → contains_number (xs ++ x ∷ []) y ≡ true) → (b : Bool) → (b || contains_number xs y) ≡ true → (b || contains_number (xs ++ x ∷ []) y) ≡ true
-    by later true k = refl
-    by later false k = later k
-
-there-cases : (xs : List ℕ) (x y : ℕ) → contains_number (xs ++ x ∷ []) y ≡ true → (contains_number xs y ≡ true) ⊎ (x ≡ y)
-there-cases [] x y h =
-    elim (cases_eq x y) [
-      | inl same ↦ inr same
-      | inr other ↦ (let no : contains_number (x ∷ []) y ≡ false = ap (λ b. b || false) (eqb-not x y other) in cc (no, h))
+pub there-cases : (xs : List ℕ) (x y : ℕ) → contains_number (xs ++ x ∷ []) y ≡ true → (contains_number xs y ≡ true) ⊎ (x ≡ y)
+there-cases xs x y h =
+    elim (or_cases (contains_number xs y) (eqb x y || false) (sym (contains_append xs (x ∷ []) y) ∙ h)) [
+      | inl old ↦ inl old
+      | inr new ↦ inr (exact_unsigned_eq x y (sym (or_false (eqb x y)) ∙ new))
     ]
-there-cases (z ∷ xs) x y h = by (λ k. there-cases xs x y k) (eqb z y) h
-  where
-    by : (contains_number (xs ++ x ∷ []) y ≡ true → (contains_number xs y ≡ true) ⊎ (x ≡ y)) → (b : Bool) → (b || contains_number (xs ++ x ∷ []) y) ≡ true → ((b || contains_number xs y) ≡ true) ⊎ (x ≡ y)
-    by later true k = inl refl
-    by later false k = later k
 
 climbs-more : (xs : List ℕ) (x : ℕ) → Climbs xs → ((y : ℕ) → contains_number xs y ≡ true → y < x) → Climbs (xs ++ x ∷ [])
 climbs-more [] x h low = (λ y is. cc is, _)
@@ -97,26 +93,22 @@ climbs-more (z ∷ xs) x h low = (
     | inl old ↦ h.0 y old
     | inr new ↦ (let l = low z (ap (λ b. b || contains_number xs z) (eqb_true z z refl)) in omega (arith, l, new))
   ],
-  climbs-more xs x h.1 (λ y is. low y (or-right (eqb z y) is)),
+  climbs-more xs x h.1 (λ y is. low y (or_right (eqb z y) _ is)),
 )
-  where
-    or-right : (b : Bool) {c : Bool} → c ≡ true → (b || c) ≡ true
-    or-right true h = refl
-    or-right false h = h
 
 once-there : (xs : List ℕ) (x : ℕ) → contains_number (once_more x xs) x ≡ true
 once-there xs x = by (contains_number xs x) refl
   where
     by : (b : Bool) → contains_number xs x ≡ b → contains_number (cond b xs (xs ++ x ∷ [])) x ≡ true
     by true is = is
-    by false is = is-there xs x
+    by false is = contains_middle xs [] x
 
 once-stays : (xs : List ℕ) (x y : ℕ) → contains_number xs y ≡ true → contains_number (once_more x xs) y ≡ true
 once-stays xs x y h = by (contains_number xs x)
   where
     by : (b : Bool) → contains_number (cond b xs (xs ++ x ∷ [])) y ≡ true
     by true = h
-    by false = stays-there xs x y h
+    by false = contains_append xs (x ∷ []) y ∙ or_left (contains_number xs y) _ h
 
 once-cases : (xs : List ℕ) (x y : ℕ) → contains_number (once_more x xs) y ≡ true → (contains_number xs y ≡ true) ⊎ (x ≡ y)
 once-cases xs x y = by (contains_number xs x)
@@ -147,16 +139,16 @@ module _ (shown : ℕ) (feeds : List (Vec Feed Global)) (at place : ℕ) (f : Fe
   many = ap length adds.arcs ∙ length_more w.arcs.items arc
 
   row-same : (actor : ℕ) → actor ≡ at → arcs_read w' actor ≡ arcs_read w actor ++ k ∷ []
-  row-same actor is = adds.inputs actor ∙ ap (λ b. cond b (arcs_read w actor ++ k ∷ []) (arcs_read w actor)) (eqb_true actor arc.to (is ∙ sym to))
+  row-same actor is = adds.inputs.added actor ∙ ap (λ b. cond b (arcs_read w actor ++ k ∷ []) (arcs_read w actor)) (eqb_true actor arc.to (is ∙ sym to))
 
   row-other : (actor : ℕ) → actor ≢ at → arcs_read w' actor ≡ arcs_read w actor
-  row-other actor ne = adds.inputs actor ∙ ap (λ b. cond b (arcs_read w actor ++ k ∷ []) (arcs_read w actor)) (eqb-not actor arc.to (λ e. ne (e ∙ to)))
+  row-other actor ne = adds.inputs.added actor ∙ ap (λ b. cond b (arcs_read w actor ++ k ∷ []) (arcs_read w actor)) (eqb-not actor arc.to (λ e. ne (e ∙ to)))
 
   arc-old : (a : ℕ) → a < k → slice_get w'.arcs.items a ≡ slice_get w.arcs.items a
   arc-old a low = ap (λ xs. slice_get xs a) adds.arcs ∙ get-front w.arcs.items arc a low
 
   arc-new : slice_get w'.arcs.items k ≡ Some arc
-  arc-new = ap (λ xs. slice_get xs k) adds.arcs ∙ get-last w.arcs.items arc
+  arc-new = ap (λ xs. slice_get xs k) adds.arcs ∙ get_next w.arcs.items arc []
 
   abbrev IsNew : ℕ → ℕ → ℕ → Type 0
   IsNew actor port a = (actor ≡ at) × (port ≡ place) × (k ≡ a)
@@ -189,37 +181,15 @@ module _ (shown : ℕ) (feeds : List (Vec Feed Global)) (at place : ℕ) (f : Fe
   from-in : (a : ℕ) → a < length w'.arcs.items → IsGiver shown (length feeds) (from_of (slice_get w'.arcs.items a))
   from-in a low = by-arc (λ b o. IsGiver shown (length feeds) (from_of o)) a low (i.from_in a) (subst (IsGiver shown (length feeds)) (sym of.0) (are.from_in at place f there))
 
-  joined : (actor port a : ℕ) → slice_get (arcs_read w' actor) port ≡ Some a → (to_of (slice_get w'.arcs.items a) ≡ actor) × (arc_place (slice_get w'.arcs.items a) ≡ port)
-  joined actor port a is =
+  -- and of an arc that is read at a port
+  by-read : (P : ℕ → ℕ → Option Arc → Type 0) → ((actor port a : ℕ) → slice_get (arcs_read w actor) port ≡ Some a → P actor port (slice_get w.arcs.items a)) → P at place (Some arc)
+      → (actor port a : ℕ) → slice_get (arcs_read w' actor) port ≡ Some a → P actor port (slice_get w'.arcs.items a)
+  by-read P old new actor port a is =
       elim (read-cases actor port a is) [
-        | inl old ↦ subst (λ o. (to_of o ≡ actor) × (arc_place o ≡ port)) (sym (arc-old a (i.arcs_in actor port a old))) (i.joined actor port a old)
-        | inr new ↦ subst (λ b. (to_of (slice_get w'.arcs.items b) ≡ actor) × (arc_place (slice_get w'.arcs.items b) ≡ port)) new.2
-            (subst (λ o. (to_of o ≡ actor) × (arc_place o ≡ port)) (sym arc-new) (to ∙ sym new.0, stands ∙ sym new.1))
+        | inl was ↦ subst (P actor port) (sym (arc-old a (i.arcs_in actor port a was))) (old actor port a was)
+        | inr here ↦ subst (λ b. P actor port (slice_get w'.arcs.items b)) here.2
+            (subst (P actor port) (sym arc-new) (subst (λ x. P x port (Some arc)) (sym here.0) (subst (λ p. P at p (Some arc)) (sym here.1) new)))
       ]
-
-  fed : (actor port a : ℕ) → slice_get (arcs_read w' actor) port ≡ Some a → IsOf (slice_get w'.arcs.items a) (slice_get (feeds_of feeds actor) port)
-  fed actor port a is =
-      elim (read-cases actor port a is) [
-        | inl old ↦ subst (λ o. IsOf o (slice_get (feeds_of feeds actor) port)) (sym (arc-old a (i.arcs_in actor port a old))) (i.fed actor port a old)
-        | inr new ↦ (
-            let here : slice_get (feeds_of feeds actor) port ≡ Some f = ap (λ x. slice_get (feeds_of feeds x) port) new.0 ∙ ap (λ p. slice_get (feeds_of feeds at) p) new.1 ∙ there in
-            subst (λ b. IsOf (slice_get w'.arcs.items b) (slice_get (feeds_of feeds actor) port)) new.2
-            (subst (λ o. IsOf o (slice_get (feeds_of feeds actor) port)) (sym arc-new) (subst (IsOf (Some arc)) (sym here) of)))
-      ]
-
-  from-same : (actor port : ℕ) → actor ≡ arc.from → port ≡ arc.port → arcs_from w' actor port ≡ arcs_from w actor port ++ k ∷ []
-  from-same actor port e d = adds.readers actor port
-      ∙ ap (λ b. cond b (cond (eqb port arc.port) (arcs_from w actor port ++ k ∷ []) (arcs_from w actor port)) (arcs_from w actor port)) (eqb_true actor arc.from e)
-      ∙ ap (λ b. cond b (arcs_from w actor port ++ k ∷ []) (arcs_from w actor port)) (eqb_true port arc.port d)
-
-  from-actor : (actor port : ℕ) → actor ≢ arc.from → arcs_from w' actor port ≡ arcs_from w actor port
-  from-actor actor port ne = adds.readers actor port
-      ∙ ap (λ b. cond b (cond (eqb port arc.port) (arcs_from w actor port ++ k ∷ []) (arcs_from w actor port)) (arcs_from w actor port)) (eqb-not actor arc.from ne)
-
-  from-port : (actor port : ℕ) → actor ≡ arc.from → port ≢ arc.port → arcs_from w' actor port ≡ arcs_from w actor port
-  from-port actor port e ne = adds.readers actor port
-      ∙ ap (λ b. cond b (cond (eqb port arc.port) (arcs_from w actor port ++ k ∷ []) (arcs_from w actor port)) (arcs_from w actor port)) (eqb_true actor arc.from e)
-      ∙ ap (λ b. cond b (arcs_from w actor port ++ k ∷ []) (arcs_from w actor port)) (eqb-not port arc.port ne)
 
   abbrev Said : ℕ → ℕ → Option Arc → ℕ
   Said actor port o = cond (eqb actor (from_of o)) (cond (eqb port (arc_port o)) 1 0) 0
@@ -227,56 +197,24 @@ module _ (shown : ℕ) (feeds : List (Vec Feed Global)) (at place : ℕ) (f : Fe
   none-yet : (actor port : ℕ) → times_in k (arcs_from w actor port) ≡ 0
   none-yet actor port = times-none k (arcs_from w actor port) (λ p x is. i.readers_in actor port p x is)
 
-  said-none : (actor port : ℕ) → actor ≢ arc.from → Said actor port (Some arc) ≡ 0
-  said-none actor port ne = ap (λ b. cond b (cond (eqb port arc.port) 1 0) 0) (eqb-not actor arc.from ne)
-
-  said-other : (actor port : ℕ) → actor ≡ arc.from → port ≢ arc.port → Said actor port (Some arc) ≡ 0
-  said-other actor port e ne = ap (λ b. cond b (cond (eqb port arc.port) 1 0) 0) (eqb_true actor arc.from e) ∙ ap (λ b. cond b 1 0) (eqb-not port arc.port ne)
-
-  said-one : (actor port : ℕ) → actor ≡ arc.from → port ≡ arc.port → Said actor port (Some arc) ≡ 1
-  said-one actor port e d = ap (λ b. cond b (cond (eqb port arc.port) 1 0) 0) (eqb_true actor arc.from e) ∙ ap (λ b. cond b 1 0) (eqb_true port arc.port d)
-
-  -- of the new arc, and of an old one
-  read-new : (actor port : ℕ) → times_in k (arcs_from w' actor port) ≡ Said actor port (Some arc)
-  read-new actor port =
-      elim (cases_eq actor arc.from) [
-        | inr ne ↦ ap (times_in k) (from-actor actor port ne) ∙ none-yet actor port ∙ sym (said-none actor port ne)
-        | inl e ↦ elim (cases_eq port arc.port) [
-          | inr ne ↦ ap (times_in k) (from-port actor port e ne) ∙ none-yet actor port ∙ sym (said-other actor port e ne)
-          | inl d ↦ ap (times_in k) (from-same actor port e d) ∙ times-more k k (arcs_from w actor port)
-              ∙ ap (λ n. n + cond (eqb k k) 1 0) (none-yet actor port) ∙ ap (λ b. 0 + cond b 1 0) (eqb_true k k refl) ∙ sym (said-one actor port e d)
-        ]
-      ]
-
-  read-old : (actor port a : ℕ) → a < k → times_in a (arcs_from w' actor port) ≡ times_in a (arcs_from w actor port)
-  read-old actor port a low =
-      elim (cases_eq actor arc.from) [
-        | inr ne ↦ ap (times_in a) (from-actor actor port ne)
-        | inl e ↦ elim (cases_eq port arc.port) [
-          | inr ne ↦ ap (times_in a) (from-port actor port e ne)
-          | inl d ↦ (
-              let away : k ≢ a = omega (arith, low) in
-              let z : ◌≡◌ {A = ℕ} (cond (eqb k a) 1 0) 0 = ap (λ b. cond b 1 0) (eqb-not k a away) in
-              let t = times-more a k (arcs_from w actor port) in
-              ap (times_in a) (from-same actor port e d) ∙ (omega (arith, z, t)))
-        ]
-      ]
-
   read : (actor port a : ℕ) → a < length w'.arcs.items → times_in a (arcs_from w' actor port) ≡ Said actor port (slice_get w'.arcs.items a)
-  read actor port a low = by-arc (λ b o. times_in b (arcs_from w' actor port) ≡ Said actor port o) a low
-      (λ less. read-old actor port a less ∙ i.read actor port a less) (read-new actor port)
+  read actor port a low =
+      let row = arcs_from w actor port in
+      let b = eqb actor arc.from in
+      let c = eqb port arc.port in
+      ap (times_in a) (adds.readers.added actor port) ∙ times-cell a k b c row
+      ∙ by-arc (λ x o. times_in x row + cond b (cond c (cond (eqb k x) 1 0) 0) 0 ≡ Said actor port o) a low
+      (λ less. let away : k ≢ a = omega (arith, less) in
+      let none = none-said b c in
+      let old = i.read actor port a less in
+      ap (λ t. times_in a row + cond b (cond c (cond t 1 0) 0) 0) (eqb-not k a away) ∙ (omega (arith, none, old)))
+      (let none = none-yet actor port in ap (λ t. times_in k row + cond b (cond c (cond t 1 0) 0) 0) (eqb_true k k refl) ∙ (omega (arith, none)))
 
   readers-in : (actor port p a : ℕ) → slice_get (arcs_from w' actor port) p ≡ Some a → a < length w'.arcs.items
   readers-in actor port p a is =
-      elim (cases_eq actor arc.from) [
-        | inr ne ↦ (let low = i.readers_in actor port p a (ap (λ xs. slice_get xs p) (sym (from-actor actor port ne)) ∙ is) in omega (arith, low, many))
-        | inl e ↦ elim (cases_eq port arc.port) [
-          | inr ne ↦ (let low = i.readers_in actor port p a (ap (λ xs. slice_get xs p) (sym (from-port actor port e ne)) ∙ is) in omega (arith, low, many))
-          | inl d ↦ elim (get-cases (arcs_from w actor port) k p a (ap (λ xs. slice_get xs p) (sym (from-same actor port e d)) ∙ is)) [
-            | inl old ↦ (let low = i.readers_in actor port p a old in omega (arith, low, many))
-            | inr new ↦ (let s = new.1 in omega (arith, s, many))
-          ]
-        ]
+      elim (get-cell k (eqb actor arc.from) (eqb port arc.port) (arcs_from w actor port) p a (ap (λ xs. slice_get xs p) (sym (adds.readers.added actor port)) ∙ is)) [
+        | inl old ↦ (let low = i.readers_in actor port p a old in omega (arith, low, many))
+        | inr new ↦ omega (arith, new, many)
       ]
 
   length-other : (actor : ℕ) → actor ≢ at → length (arcs_read w' actor) ≡ length (arcs_read w actor)
@@ -286,15 +224,15 @@ module _ (shown : ℕ) (feeds : List (Vec Feed Global)) (at place : ℕ) (f : Fe
   by-follower : (P : List ℕ → Type 0) (actor : ℕ) → P (followers_of w actor) → (actor ≡ arc.from → P (once_more arc.to (followers_of w actor))) → P (followers_of w' actor)
   by-follower P actor old new =
       elim (cases_eq actor arc.from) [
-        | inl same ↦ subst P (sym (adds.followers actor ∙ ap (λ b. cond b (once_more arc.to (followers_of w actor)) (followers_of w actor)) (eqb_true actor arc.from same))) (new same)
-        | inr other ↦ subst P (sym (adds.followers actor ∙ ap (λ b. cond b (once_more arc.to (followers_of w actor)) (followers_of w actor)) (eqb-not actor arc.from other))) old
+        | inl same ↦ subst P (sym (adds.followers.added actor ∙ ap (λ b. cond b (once_more arc.to (followers_of w actor)) (followers_of w actor)) (eqb_true actor arc.from same))) (new same)
+        | inr other ↦ subst P (sym (adds.followers.added actor ∙ ap (λ b. cond b (once_more arc.to (followers_of w actor)) (followers_of w actor)) (eqb-not actor arc.from other))) old
       ]
 
   followed : (a : ℕ) → a < length w'.arcs.items → contains_number (followers_of w' (from_of (slice_get w'.arcs.items a))) (to_of (slice_get w'.arcs.items a)) ≡ true
   followed a low = by-arc (λ b o. contains_number (followers_of w' (from_of o)) (to_of o) ≡ true) a low
       (λ less. by-follower (λ l. contains_number l (to_of (slice_get w.arcs.items a)) ≡ true) (from_of (slice_get w.arcs.items a)) (i.followed a less)
       (λ same. once-stays (followers_of w (from_of (slice_get w.arcs.items a))) arc.to (to_of (slice_get w.arcs.items a)) (i.followed a less)))
-      (ap (λ l. contains_number l arc.to) (adds.followers arc.from ∙ ap (λ b. cond b (once_more arc.to (followers_of w arc.from)) (followers_of w arc.from)) (eqb_true arc.from arc.from refl))
+      (ap (λ l. contains_number l arc.to) (adds.followers.added arc.from ∙ ap (λ b. cond b (once_more arc.to (followers_of w arc.from)) (followers_of w arc.from)) (eqb_true arc.from arc.from refl))
       ∙ once-there (followers_of w arc.from) arc.to)
 
   followers-low : (actor follower : ℕ) → contains_number (followers_of w' actor) follower ≡ true → 8 * follower < 8 * at + (place + 1)
@@ -309,31 +247,26 @@ module _ (shown : ℕ) (feeds : List (Vec Feed Global)) (at place : ℕ) (f : Fe
   upto-here : (actor follower : ℕ) → contains_number (followers_of w actor) follower ≡ true → follower ≤ arc.to
   upto-here actor follower h = (let low = i.followers_low actor follower h in let few = place-few in omega (arith, low, few, to))
     where
-      within : (fs : List Feed) (p : ℕ) → slice_get fs p ≡ Some f → p < length fs
-      within [] p is = cc is
-      within (g ∷ fs) zero is = omega arith
-      within (g ∷ fs) (suc p) is = (let h = within fs p is in omega (arith, h))
-
       place-few : place < 8
-      place-few = (let low = within (feeds_of feeds at) place there in let few = are.ports at in omega (arith, low, few))
+      place-few = (let low = slice_get_within (feeds_of feeds at) place f there in let few = are.ports at in omega (arith, low, few))
 
   -- one more arc of this operator
   pub joining-more : IsJoining shown feeds at (place + 1) w'
   joining-more =
       record {
-        inputs_len = adds.inputs_len ∙ i.inputs_len;
-        readers_len = adds.readers_len ∙ i.readers_len;
+        inputs_len = adds.inputs.len ∙ i.inputs_len;
+        readers_len = adds.readers.len ∙ i.readers_len;
         count = (let c = i.count in omega (arith, c, many));
         before = λ actor low. length-other actor (omega (arith, low)) ∙ i.before actor low;
         now = ap length (row-same at refl) ∙ length_more (arcs_read w at) k ∙ ap (λ n. n + 1) i.now;
         later = λ actor high. length-other actor (omega (arith, high)) ∙ i.later actor high;
         arcs_in = arcs-in;
         from_in = from-in;
-        joined = joined;
-        fed = fed;
+        joined = by-read (λ actor port o. (to_of o ≡ actor) × (arc_place o ≡ port)) i.joined (to, stands);
+        fed = by-read (λ actor port o. IsOf o (slice_get (feeds_of feeds actor) port)) i.fed (subst (IsOf (Some arc)) (sym there) of);
         read = read;
         readers_in = readers-in;
-        followers_len = adds.followers_len ∙ i.followers_len;
+        followers_len = adds.followers.len ∙ i.followers_len;
         followed = followed;
         followers_low = followers-low;
         climbs = λ actor. by-follower Climbs actor (i.climbs actor) (λ same. once-climbs (followers_of w actor) arc.to (i.climbs actor) (upto-here actor));

@@ -21,8 +21,8 @@ use Rattle.sq_net.proofs.StreamLemmas.{stream_typed, boxes_count}
 use Rattle.sq_points.specs.Points.{points_of}
 use Rattle.sq_points.proofs.Bounds.{at_least, takes_all}
 use Rattle.sq_model.specs.GivenLevels.{IsAt}
-use Rattle.sq_below.specs.Actors.{Actor, Sources, Box, Shedder, Shower, arc_from}
-use Rattle.sq_start.specs.Numbers.{IsThere, ops_of, number_of, actor_at, place_stream, reads_of, shedder_reads}
+use Rattle.sq_below.specs.Actors.{Actor, Sources, Box, WindowDrop, OutputGate, arc_from}
+use Rattle.sq_start.specs.Numbers.{IsThere, ops_of, number_of, actor_at, place_stream, reads_of, window_drop_reads}
 use Rattle.sq_start.proofs.NumberLemmas.{which}
 use Rattle.sq_start.specs.Nets.{ComesFrom, AllCome, Joins}
 use Rattle.sq_start.specs.Arrivals.{arcs_to, point_streams, streams_to, TakesArcs, MarksAreTaken, TuplesAreTaken}
@@ -35,18 +35,17 @@ use Rattle.sq_core.specs.Joining.{IsOf}
 use Rattle.sq_core.specs.Table.{kinds_on, arc_feed, place_feed, point_row, feeds_row, IsTabled}
 use Rattle.sq_core.proofs.TableLemmas.{arc_stream_there, place_stream_there, input-low, row-box, row-drop, row-output}
 use Rattle.sq_value.proofs.FitLemmas.{fields_count, kinds_fit_is}
-use Rattle.std.proofs.lemmas.Option.{slice_get_past}
-use Rattle.sq_words.proofs.Lists.{list_all_at}
+use Rattle.std.specs.Option.{option_map}
+use Rattle.std.proofs.lemmas.Option.{slice_get-map, slice_get_past}
+use Rattle.sq_words.proofs.Lists.{has_item, list_all_at}
 use Rattle.sq_points.specs.Above.{drop_above_arc}
 
 -- ---- lists
 
 mapped : {A B : Type 0} (F : A → B) (xs : List A) (i : ℕ) (x : A) → slice_get xs i ≡ Some x → slice_get (map F xs) i ≡ Some (F x)
-mapped F [] i x is = cc is
-mapped F (y ∷ xs) zero x is = (let e : y ≡ x = cc is in ap (λ z. Some (F z)) e)
-mapped F (y ∷ xs) (suc i) x is = mapped F xs i x is
+mapped F xs i x is = slice_get-map F xs i ∙ ap (option_map F) is
 
-unmapped : {A B : Type 0} (F : A → B) (xs : List A) (i : ℕ) (y : B) → slice_get (map F xs) i ≡ Some y → (x : A) × (slice_get xs i ≡ Some x) × (F x ≡ y)
+pub unmapped : {A B : Type 0} (F : A → B) (xs : List A) (i : ℕ) (y : B) → slice_get (map F xs) i ≡ Some y → (x : A) × (slice_get xs i ≡ Some x) × (F x ≡ y)
 unmapped F [] i y is = cc is
 unmapped F (x ∷ xs) zero y is = (x, refl, cc is)
 unmapped F (x ∷ xs) (suc i) y is = unmapped F xs i y is
@@ -61,21 +60,21 @@ module _ (n : Network) where
   row-arc : (x : Actor) (port : ℕ) (f : Feed) → slice_get (feeds_row n x) port ≡ Some f → f.marked ≡ true → (a : ℕ) × (slice_get (arcs_to n x) port ≡ Some a) × (is_some (drop_above_arc n a) ≡ true)
   row-arc Sources port f is marked = cc is
   row-arc (Box b) port f is marked = (let a = unmapped (arc_feed n) (input_arcs_of n.wires b) port f is in (a.0, a.1, ap (λ (g : Feed). g.marked) a.2 ∙ marked))
-  row-arc (Shedder w) port f is marked = by (slice_get (points_of n) w) port is
+  row-arc (WindowDrop w) port f is marked = by (slice_get (points_of n) w) port is
     where
-      by : (o : Option DropPoint) (port : ℕ) → slice_get (point_row n o) port ≡ Some f → (a : ℕ) × (slice_get (arcs_to n (Shedder w)) port ≡ Some a) × (is_some (drop_above_arc n a) ≡ true)
+      by : (o : Option DropPoint) (port : ℕ) → slice_get (point_row n o) port ≡ Some f → (a : ℕ) × (slice_get (arcs_to n (WindowDrop w)) port ≡ Some a) × (is_some (drop_above_arc n a) ≡ true)
       by None port is = cc is
       by (Some p) zero is = (let e : place_feed n p ≡ f = cc is in let bad : false ≡ true = ap (λ (g : Feed). g.marked) e ∙ marked in cc bad)
       by (Some p) (suc port) is = cc is
-  row-arc (Shower o) zero f is marked = (let e : arc_feed n (output_arc_at n.wires o) ≡ f = cc is in (output_arc_at n.wires o, refl, ap (λ (g : Feed). g.marked) e ∙ marked))
-  row-arc (Shower o) (suc port) f is marked = cc is
+  row-arc (OutputGate o) zero f is marked = (let e : arc_feed n (output_arc_at n.wires o) ≡ f = cc is in (output_arc_at n.wires o, refl, ap (λ (g : Feed). g.marked) e ∙ marked))
+  row-arc (OutputGate o) (suc port) f is marked = cc is
 
   arc-row : (x : Actor) (port a : ℕ) → slice_get (arcs_to n x) port ≡ Some a → slice_get (feeds_row n x) port ≡ Some (arc_feed n a)
   arc-row Sources port a is = cc is
   arc-row (Box b) port a is = mapped (arc_feed n) (input_arcs_of n.wires b) port a is
-  arc-row (Shedder w) port a is = cc is
-  arc-row (Shower o) zero a is = (let e : output_arc_at n.wires o ≡ a = cc is in ap (λ z. Some (arc_feed n z)) e)
-  arc-row (Shower o) (suc port) a is = cc is
+  arc-row (WindowDrop w) port a is = cc is
+  arc-row (OutputGate o) zero a is = (let e : output_arc_at n.wires o ≡ a = cc is in ap (λ z. Some (arc_feed n z)) e)
+  arc-row (OutputGate o) (suc port) a is = cc is
 
   record OfStream (x : Actor) (port : ℕ) (f : Feed) : Type 0 where
     stream : ℕ
@@ -95,9 +94,9 @@ module _ (n : Network) where
           given = arc_stream_there n sound a.0 (input-low n b port a.0 (omega (arith, boxes, t)) a.1);
           typed = ap (λ (g : Feed). g.kinds) (sym a.2);
         }
-    row-stream (Shedder w) t port f is = by (slice_get (points_of n) w) refl port is
+    row-stream (WindowDrop w) t port f is = by (slice_get (points_of n) w) refl port is
       where
-        by : (o : Option DropPoint) → slice_get (points_of n) w ≡ o → (port : ℕ) → slice_get (point_row n o) port ≡ Some f → OfStream (Shedder w) port f
+        by : (o : Option DropPoint) → slice_get (points_of n) w ≡ o → (port : ℕ) → slice_get (point_row n o) port ≡ Some f → OfStream (WindowDrop w) port f
         by None here port is = cc is
         by (Some p) here zero is =
             let e : place_feed n p ≡ f = cc is in
@@ -108,7 +107,7 @@ module _ (n : Network) where
               typed = ap (λ (g : Feed). g.kinds) (sym e);
             }
         by (Some p) here (suc port) is = cc is
-    row-stream (Shower o) t zero f is =
+    row-stream (OutputGate o) t zero f is =
         let e : arc_feed n (output_arc_at n.wires o) ≡ f = cc is in
         record {
           stream = stream_on n.wires (output_arc_at n.wires o);
@@ -116,21 +115,21 @@ module _ (n : Network) where
           given = arc_stream_there n sound (output_arc_at n.wires o) (outputs-there n.wires o t);
           typed = ap (λ (g : Feed). g.kinds) (sym e);
         }
-    row-stream (Shower o) t (suc port) f is = cc is
+    row-stream (OutputGate o) t (suc port) f is = cc is
 
   stream-row : (x : Actor) (port s : ℕ) → slice_get (streams_to n x) port ≡ Some s → (f : Feed) × (slice_get (feeds_row n x) port ≡ Some f) × (f.kinds ≡ kinds_on (columns_of_stream n s))
   stream-row Sources port s is = cc is
   stream-row (Box b) port s is =
       let a = unmapped (stream_on n.wires) (input_arcs_of n.wires b) port s (ap (λ l. slice_get l port) (arcs-inputs n.wires b) ∙ is) in
       (arc_feed n a.0, mapped (arc_feed n) (input_arcs_of n.wires b) port a.0 a.1, ap (λ z. kinds_on (columns_of_stream n z)) a.2)
-  stream-row (Shedder w) port s is = by (slice_get (points_of n) w) port is
+  stream-row (WindowDrop w) port s is = by (slice_get (points_of n) w) port is
     where
       by : (o : Option DropPoint) (port : ℕ) → slice_get (point_streams n o) port ≡ Some s → (f : Feed) × (slice_get (point_row n o) port ≡ Some f) × (f.kinds ≡ kinds_on (columns_of_stream n s))
       by None port is = cc is
       by (Some p) zero is = (let e : place_stream n p.at ≡ s = cc is in (place_feed n p, refl, ap (λ z. kinds_on (columns_of_stream n z)) e))
       by (Some p) (suc port) is = cc is
-  stream-row (Shower o) zero s is = (let e : stream_on n.wires (output_arc_at n.wires o) ≡ s = cc is in (arc_feed n (output_arc_at n.wires o), refl, ap (λ z. kinds_on (columns_of_stream n z)) e))
-  stream-row (Shower o) (suc port) s is = cc is
+  stream-row (OutputGate o) zero s is = (let e : stream_on n.wires (output_arc_at n.wires o) ≡ s = cc is in (arc_feed n (output_arc_at n.wires o), refl, ap (λ z. kinds_on (columns_of_stream n z)) e))
+  stream-row (OutputGate o) (suc port) s is = cc is
 
 -- ---- what wires say of a port
 
@@ -200,12 +199,12 @@ rows-same n (Box b) = each (input_arcs_of n.wires b)
     each : (arcs : List ℕ) → Same n (map (arc_from n) arcs) (map (arc_feed n) arcs)
     each [] = _
     each (a ∷ arcs) = (refl, refl, each arcs)
-rows-same n (Shedder w) = by (slice_get (points_of n) w)
+rows-same n (WindowDrop w) = by (slice_get (points_of n) w)
   where
-    by : (o : Option DropPoint) → Same n (shedder_reads n o) (point_row n o)
+    by : (o : Option DropPoint) → Same n (window_drop_reads n o) (point_row n o)
     by None = _
     by (Some p) = (refl, refl, _)
-rows-same n (Shower o) = (refl, refl, _)
+rows-same n (OutputGate o) = (refl, refl, _)
 
 comes : (n : Network) (w : Wires) (y : Actor × ℕ) (f : Feed) (arc : ℕ) (o : Option Arc) → slice_get w.arcs.items arc ≡ o → f.from ≡ number_of n y.0 → f.port ≡ y.1 → IsOf o (Some f) → ComesFrom n (net_of w) y arc
 comes n w y f arc None is from port of = absurd of
@@ -259,17 +258,12 @@ box-reads n sound b low = by (slice_get n.wires.boxes b) refl
         let many = row in
         omega (arith, some, same, many)
 
-some-point : (ps : List DropPoint) (w : ℕ) → w < length ps → (p : DropPoint) × (slice_get ps w ≡ Some p)
-some-point [] w h = absurd (omega (arith, h))
-some-point (p ∷ ps) zero h = (p, refl)
-some-point (p ∷ ps) (suc w) h = some-point ps w (omega (arith, h))
-
 pub reads-some : (n : Network) → IsSound n → (actor : ℕ) → actor < ops_of n → 1 ≤ length (feeds_row n (actor_at n actor))
 reads-some n sound actor low =
     elim (which n actor low) [
       | inl box ↦ subst (λ l. 1 ≤ length l) (sym (row-box n actor box)) (box-reads n sound actor box)
       | inr (inl drop) ↦ (
-          let p = some-point (points_of n) drop.0 drop.2 in
+          let p = has_item (points_of n) drop.0 drop.2 in
           let is = drop.1 in
           let k : drop.0 ≡ actor - length n.boxes = omega (arith, is) in
           let one = ap (λ (l : List Feed). length l) (row-drop n actor p.0 (omega (arith, is)) (ap (slice_get (points_of n)) (sym k) ∙ p.1)) in

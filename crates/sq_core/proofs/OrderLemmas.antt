@@ -1,15 +1,13 @@
 -- The outputs, then the boxes with their drops, the last first, are an order in which each reads earlier ones.
-use Rattle.std.proofs.Common.{◌≡◌, ◌≢◌, ℕ, zero, suc, ◌+◌, ◌<◌, ◌≤◌, eqb, cond, Bool, true, false, not, ◌||◌, List, [], ◌∷◌, ◌++◌, map, length, Option, Some, None, Vec, slice_get, refl, ap, sym, ◌∙◌, subst, arith, append_assoc, append-nil, inl, inr, ◌⊎◌}
+use Rattle.std.proofs.Common.{◌≡◌, ◌≢◌, ℕ, zero, suc, ◌+◌, ◌<◌, ◌≤◌, eqb, cond, Bool, true, false, not, ◌||◌, List, [], ◌∷◌, ◌++◌, map, length, Option, Some, None, Vec, slice_get, refl, ap, sym, ◌∙◌, subst, arith, append_assoc, append-nil, inl, inr}
 use Rattle.std.specs.List.{list_all, AllByRecursion}
 use Rattle.std.specs.declared.alloc.Global.{Global}
 use Rattle.std.proofs.lemmas.Bool.{cases_lt, or_right}
-use Rattle.std.proofs.lemmas.List.Folds.{list_any-append}
 use Rattle.std.proofs.lemmas.Option.{slice_get_within}
 use Rattle.sq_graph.specs.Wires.{producer_of, inputs_of, input_arcs_of, output_arc_at}
 use Rattle.sq_graph.specs.declared.Producer.{Producer}
 use Rattle.sq_graph.specs.declared.Producer.TheVariants.{Source, Port}
 use Rattle.sq_graph.specs.Order.{is_given, can_be_next, order_of}
-use Rattle.sq_graph.proofs.Producers.{producer_is}
 use Rattle.sq_graph.proofs.Cycles.{has_is}
 use Rattle.sq_graph.proofs.Placing.{order_placed}
 use Rattle.sq_graph.proofs.Following.{order_follows}
@@ -24,17 +22,18 @@ use Rattle.sq_net.proofs.StreamLemmas.{boxes_count}
 use Rattle.sq_points.specs.Points.{points_of, drops_in}
 use Rattle.sq_below.specs.ArcContents.{Drop}
 use Rattle.sq_below.specs.Actors.{giver, from_drop}
-use Rattle.sq_start.specs.Numbers.{first_output, ops_of, number_of, actor_at, place_stream}
-use Rattle.sq_start.proofs.NumberLemmas.{box-at, drop-at, output-at, which}
+use Rattle.sq_start.specs.Numbers.{IsThere, first_output, ops_of, number_of, actor_at, place_stream}
+use Rattle.sq_start.proofs.NumberLemmas.{box-at, drop-at, giver-there, output-at, which}
 use Rattle.sq_start.proofs.PointLemmas.{first-found}
 use Rattle.sq_core.specs.declared.join.Feed.{Feed}
 use Rattle.sq_core.specs.Joining.{feeds_of, known_by, AllKnown, ReadsEarlier, IsActorOrder}
 use Rattle.sq_core.specs.Table.{arc_feed, place_feed, point_row, feeds_row, feed_table, turned, same_box, box_giving, drops_from, drops_behind, with_boxes, with_outputs, actors_of}
+use Rattle.sq_core.proofs.JoinLemmas.{there-cases}
 use Rattle.sq_core.proofs.TableLemmas.{row-is, count-is}
 use Rattle.sq_words.specs.Lists.{contains_number}
-use Rattle.sq_words.proofs.Bools.{and_true, and_second, or_cases}
+use Rattle.sq_words.proofs.Bools.{and_true, and_second, or_cases, or_false}
 use Rattle.std.proofs.lemmas.Map.Views.{exact_unsigned_eq}
-use Rattle.sq_words.proofs.Lists.{contains_filter}
+use Rattle.sq_words.proofs.Lists.{contains_filter, contains_middle, has_item}
 use Rattle.sq_words.proofs.Numbers.{eqb_true}
 use Rattle.sq_place.proofs.Ranks.{order-has}
 use Rattle.sq_points.specs.Above.{drop_on_arc}
@@ -79,11 +78,7 @@ own-stream : (n : Network) (place : DropAt) (a : ℕ) → contains_number (own_a
 own-stream n (at.Stream s) a own =
     exact_unsigned_eq (stream_on n.wires a) s
     (and_second (contains_number (arc_numbers n.wires) a) (eqb (stream_on n.wires a) s) (sym (contains_filter (λ c. eqb (stream_on n.wires c) s) (arc_numbers n.wires) a) ∙ own))
-own-stream n (at.Arc x) a own = ap (stream_on n.wires) (sym (exact_unsigned_eq x a (or-false (eqb x a) own)))
-  where
-    or-false : (b : Bool) → (b || false) ≡ true → b ≡ true
-    or-false true h = refl
-    or-false false h = h
+own-stream n (at.Arc x) a own = ap (stream_on n.wires) (sym (exact_unsigned_eq x a (sym (or_false (eqb x a)) ∙ own)))
 
 all-mapped : (t : ℕ → Bool) (f : ℕ → ℕ) (xs : List ℕ) → list_all t (map f xs) ≡ true → AllByRecursion (λ x. t (f x) ≡ true) xs
 all-mapped t f [] h = _
@@ -207,29 +202,29 @@ module _ (n : Network) (sound : IsSound n) (feeds : List (Vec Feed Global)) (row
       by (Some b) h = h
 
   module _ (front done : List ℕ) (placed : Placed front done) where
-    given-known : (p : Option Producer) → is_given front p ≡ true → known_by ops done (number_of n (giver p).0) ≡ true
-    given-known None h = cc h
+    given-known : (p : Option Producer) → is_ready front (box_of p) ≡ true → known_by ops done (number_of n (giver p).0) ≡ true
+    given-known None h = known-replay ops done
     given-known (Some (Source k)) h = known-replay ops done
     given-known (Some (Port b q)) h = placed.boxes b h
+
+    arc-known : (a : ℕ) → is_ready front (box_of (producer_of n.wires (stream_on n.wires a))) ≡ true → known_by ops done (arc_feed n a).from ≡ true
+    arc-known a ready = by (drop_on_arc n a) refl
+      where
+        by : (o : Option Drop) → drop_on_arc n a ≡ o → known_by ops done (number_of n (from_drop n o a).0) ≡ true
+        by None is = given-known (producer_of n.wires (stream_on n.wires a)) ready
+        by (Some d) is =
+            let f = first-found (λ p. contains_number (own_arcs n.wires p.at) a) 0 (points_of n) d is in
+            let here : slice_get (points_of n) d.0 ≡ Some d.1 = (let e : d.0 ≡ f.place = (let k = f.number in omega (arith, k)) in ap (slice_get (points_of n)) e ∙ f.there) in
+            placed.drops d.0 d.1 here (ap (λ s. is_ready front (box_of (producer_of n.wires s))) (sym (own-stream n (d.1).at a f.passes)) ∙ ready)
 
     given-ready : (p : Option Producer) → is_given front p ≡ true → is_ready front (box_of p) ≡ true
     given-ready None h = cc h
     given-ready (Some (Source k)) h = refl
     given-ready (Some (Port b q)) h = h
 
-    arc-known : (a : ℕ) → is_given front (producer_of n.wires (stream_on n.wires a)) ≡ true → known_by ops done (arc_feed n a).from ≡ true
-    arc-known a given = by (drop_on_arc n a) refl
-      where
-        by : (o : Option Drop) → drop_on_arc n a ≡ o → known_by ops done (number_of n (from_drop n o a).0) ≡ true
-        by None is = given-known (producer_of n.wires (stream_on n.wires a)) given
-        by (Some d) is =
-            let f = first-found (λ p. contains_number (own_arcs n.wires p.at) a) 0 (points_of n) d is in
-            let here : slice_get (points_of n) d.0 ≡ Some d.1 = (let e : d.0 ≡ f.place = (let k = f.number in omega (arith, k)) in ap (slice_get (points_of n)) e ∙ f.there) in
-            placed.drops d.0 d.1 here (ap (λ s. is_ready front (box_of (producer_of n.wires s))) (sym (own-stream n (d.1).at a f.passes)) ∙ given-ready (producer_of n.wires (stream_on n.wires a)) given)
-
     all-arcs : (arcs : List ℕ) → AllByRecursion (λ a. is_given front (producer_of n.wires (stream_on n.wires a)) ≡ true) arcs → AllKnown ops done (map (arc_feed n) arcs)
     all-arcs [] h = _
-    all-arcs (a ∷ arcs) h = (arc-known a h.0, all-arcs arcs h.1)
+    all-arcs (a ∷ arcs) h = (arc-known a (given-ready (producer_of n.wires (stream_on n.wires a)) h.0), all-arcs arcs h.1)
 
     -- a box that can be next, with its drops
     next-placed : (at : ℕ) (rest : List ℕ) → order_of n.wires ≡ front ++ at ∷ rest → Placed (front ++ at ∷ []) (turned (at ∷ done) (drops_behind n (Some at)))
@@ -248,8 +243,7 @@ module _ (n : Network) (sound : IsSound n) (feeds : List (Vec Feed Global)) (row
         next = order_follows n.wires front rest at is
 
         low : at < length n.boxes
-        low = below at (ap (λ l. contains_number l at) is ∙ list_any-append (λ z. eqb z at) front (at ∷ rest)
-            ∙ or_right (contains_number front at) _ (ap (λ b. b || contains_number rest at) (eqb_true at at refl)))
+        low = below at (ap (λ l. contains_number l at) is ∙ contains_middle front rest at)
 
         away : at ≢ ops
         away e = omega (arith, low, e)
@@ -263,19 +257,9 @@ module _ (n : Network) (sound : IsSound n) (feeds : List (Vec Feed Global)) (row
         known-rows : AllKnown ops done (feeds_of feeds at)
         known-rows = subst (AllKnown ops done) (sym (rows at (omega (arith, low)) ∙ ap (feeds_row n) (box-at n at low))) (all-arcs (input_arcs_of n.wires at) givens)
 
-        in-front : (x : ℕ) → contains_number (front ++ at ∷ []) x ≡ true → (contains_number front x ≡ true) ⊎ (at ≡ x)
-        in-front x h =
-            elim (or_cases (contains_number front x) (eqb at x || false) (sym (list_any-append (λ z. eqb z x) front (at ∷ [])) ∙ h)) [
-              | inl old ↦ inl old
-              | inr new ↦ elim (or_cases (eqb at x) false new) [
-                | inl e ↦ inr (exact_unsigned_eq at x e)
-                | inr f ↦ cc f
-              ]
-            ]
-
         known-front : (x : ℕ) → contains_number (front ++ at ∷ []) x ≡ true → known_by ops (at ∷ done) x ≡ true
         known-front x h =
-            elim (in-front x h) [
+            elim (there-cases front at x h) [
               | inl old ↦ known-more ops x at done (placed.boxes x old)
               | inr same ↦ subst (λ z. known_by ops (at ∷ done) z ≡ true) same (known-here ops at done)
             ]
@@ -285,7 +269,7 @@ module _ (n : Network) (sound : IsSound n) (feeds : List (Vec Feed Global)) (row
         drops-known w p there None is-box h =
             turned-old ops (length n.boxes + w) (at ∷ done) (drops_behind n (Some at)) (known-more ops (length n.boxes + w) at done (placed.drops w p there (ap (is_ready front) is-box)))
         drops-known w p there (Some b) is-box h =
-            elim (in-front b (sym (ap (is_ready (front ++ at ∷ [])) is-box) ∙ h)) [
+            elim (there-cases front at b (sym (ap (is_ready (front ++ at ∷ [])) is-box) ∙ h)) [
               | inl old ↦ turned-old ops (length n.boxes + w) (at ∷ done) (drops_behind n (Some at))
                   (known-more ops (length n.boxes + w) at done (placed.drops w p there (ap (is_ready front) is-box ∙ old)))
               | inr same ↦ behind-new (Some at) (at ∷ done) w p there (ap (λ z. same_box z (Some at)) is-box ∙ eqb_true b at (sym same))
@@ -305,17 +289,12 @@ module _ (n : Network) (sound : IsSound n) (feeds : List (Vec Feed Global)) (row
   -- ---- outputs are added
 
   box-there : (s b : ℕ) → box_of (producer_of n.wires s) ≡ Some b → b < length n.boxes
-  box-there s b = by (producer_of n.wires s) refl
+  box-there s b = by (producer_of n.wires s) (giver-there n sound s)
     where
-      by : (p : Option Producer) → producer_of n.wires s ≡ p → box_of p ≡ Some b → b < length n.boxes
-      by None is h = cc h
-      by (Some (Source k)) is h = cc h
-      by (Some (Port c q)) is h =
-          let same : c ≡ b = cc h in
-          let box = producer_is n.wires s (Port c q) is in
-          let low = slice_get_within n.wires.boxes c box.0 box.1.0 in
-          let e = boxes_count n sound in
-          omega (arith, low, e, same)
+      by : (p : Option Producer) → IsThere n (giver p).0 → box_of p ≡ Some b → b < length n.boxes
+      by None there h = cc h
+      by (Some (Source k)) there h = cc h
+      by (Some (Port c q)) there h = (let same : c ≡ b = cc h in omega (arith, there, same))
 
   ready-all : (s : ℕ) → is_ready (order_of n.wires) (box_of (producer_of n.wires s)) ≡ true
   ready-all s = by (box_of (producer_of n.wires s)) refl
@@ -323,21 +302,6 @@ module _ (n : Network) (sound : IsSound n) (feeds : List (Vec Feed Global)) (row
       by : (o : Option ℕ) → box_of (producer_of n.wires s) ≡ o → is_ready (order_of n.wires) o ≡ true
       by None is = refl
       by (Some b) is = has b (box-there s b is)
-
-  any-known : (a : ℕ) → known_by ops placed-boxes (arc_feed n a).from ≡ true
-  any-known a = by (drop_on_arc n a) refl
-    where
-      of : (p : Option Producer) → is_ready (order_of n.wires) (box_of p) ≡ true → known_by ops placed-boxes (number_of n (giver p).0) ≡ true
-      of None h = known-replay ops placed-boxes
-      of (Some (Source k)) h = known-replay ops placed-boxes
-      of (Some (Port b q)) h = whole.boxes b h
-
-      by : (o : Option Drop) → drop_on_arc n a ≡ o → known_by ops placed-boxes (number_of n (from_drop n o a).0) ≡ true
-      by None is = of (producer_of n.wires (stream_on n.wires a)) (ready-all (stream_on n.wires a))
-      by (Some d) is =
-          let f = first-found (λ p. contains_number (own_arcs n.wires p.at) a) 0 (points_of n) d is in
-          let here : slice_get (points_of n) d.0 ≡ Some d.1 = (let e : d.0 ≡ f.place = (let k = f.number in omega (arith, k)) in ap (slice_get (points_of n)) e ∙ f.there) in
-          whole.drops d.0 d.1 here (ready-all (place_stream n (d.1).at))
 
   outputs-old : (k x : ℕ) → known_by ops placed-boxes x ≡ true → known_by ops (with_outputs (first_output n) k placed-boxes) x ≡ true
   outputs-old zero x h = h
@@ -348,7 +312,7 @@ module _ (n : Network) (sound : IsSound n) (feeds : List (Vec Feed Global)) (row
   outputs-earlier (suc k) low = (
     (λ e. omega (arith, e, low)),
     subst (AllKnown ops (with_outputs (first_output n) k placed-boxes)) (sym (rows (first_output n + k) (omega (arith, low)) ∙ ap (feeds_row n) (output-at n k (omega (arith, low)))))
-        (outputs-old k _ (any-known (output_arc_at n.wires k)), _),
+        (outputs-old k _ (arc-known (order_of n.wires) placed-boxes whole (output_arc_at n.wires k) (ready-all (stream_on n.wires (output_arc_at n.wires k)))), _),
     outputs-earlier k (omega (arith, low)),
   )
 
@@ -368,17 +332,12 @@ module _ (n : Network) (sound : IsSound n) (feeds : List (Vec Feed Global)) (row
         | inr past ↦ (let e : k ≡ o = omega (arith, low, past) in subst (λ z. known_by ops (with_outputs (first_output n) (suc k) placed-boxes) (first_output n + z) ≡ true) e (known-here ops (first_output n + k) _))
       ]
 
-  some-point : (ps : List DropPoint) (w : ℕ) → w < length ps → (p : DropPoint) × (slice_get ps w ≡ Some p)
-  some-point [] w h = absurd (omega (arith, h))
-  some-point (p ∷ ps) zero h = (p, refl)
-  some-point (p ∷ ps) (suc w) h = some-point ps w (omega (arith, h))
-
   all-ordered : (actor : ℕ) → actor < ops → known_by ops (actors_of n) actor ≡ true
   all-ordered actor low =
       elim (which n actor low) [
         | inl box ↦ outputs-old (length n.wires.outputs) actor (whole.boxes actor (has actor box))
         | inr (inl drop) ↦ (
-            let p = some-point (points_of n) drop.0 drop.2 in
+            let p = has_item (points_of n) drop.0 drop.2 in
             subst (λ x. known_by ops (actors_of n) x ≡ true) (sym drop.1)
             (outputs-old (length n.wires.outputs) (length n.boxes + drop.0) (whole.drops drop.0 p.0 p.1 (ready-all (place_stream n (p.0).at)))))
         | inr (inr output) ↦ subst (λ x. known_by ops (actors_of n) x ≡ true) (sym output.1) (outputs-new (length n.wires.outputs) output.0 output.2)

@@ -1,5 +1,5 @@
 -- Where drops stand, and the streams of arcs.
-use Rattle.std.proofs.Common.{◌≡◌, ℕ, ◌<◌, eqb, Bool, true, false, ◌||◌, ◌&&◌, ◌++◌, length, refl, ap, ◌∙◌, zero-le, arith}
+use Rattle.std.proofs.Common.{◌≡◌, ℕ, ◌<◌, eqb, ◌&&◌, ◌++◌, length, ap, ◌∙◌, zero-le, arith}
 use Rattle.std.specs.Prelude.{slice_index_or}
 use Rattle.std.specs.List.{flat_map}
 use Rattle.std.proofs.lemmas.List.FromFn.{length-map-range_with_len, get_or-map-range_with_len}
@@ -12,6 +12,7 @@ use Rattle.sq_place.proofs.Numbering.{streams-are}
 use Rattle.sq_net.specs.declared.Network.{Network}
 use Rattle.sq_core.specs.Table.{streams_on}
 use Rattle.sq_words.specs.Lists.{contains_number}
+use Rattle.sq_words.proofs.Bools.{or_false}
 use Rattle.sq_words.proofs.Lists.{contains_filter}
 
 -- all arcs of a stream are its own
@@ -19,11 +20,7 @@ pub owns_stream : (w : Wiring) (s a : ℕ) → a < length (arcs_of w) → contai
 owns_stream w s a low = contains_filter (λ x. eqb (stream_on w x) s) (arc_numbers w) a ∙ ap (λ b. b && eqb (stream_on w a) s) (contains-range 0 (length (arcs_of w)) a zero-le (omega (arith, low)))
 
 pub owns_arc : (w : Wiring) (x a : ℕ) → contains_number (own_arcs w (at.Arc x)) a ≡ eqb x a
-owns_arc w x a = or-false (eqb x a)
-  where
-    or-false : (b : Bool) → (b || false) ≡ b
-    or-false true = refl
-    or-false false = refl
+owns_arc w x a = or_false (eqb x a)
 
 pub streams_are : (n : Network) → flat_map (λ b. b.inputs) n.wires.boxes ++ n.wires.outputs ≡ streams_on n
 streams_are n = streams-are n.wires

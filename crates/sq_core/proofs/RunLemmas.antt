@@ -1,5 +1,5 @@
 -- A step of the engine of a network, by what it is over any operators.
-use Rattle.std.proofs.Common.{◌≡◌, ℕ, ◌+◌, ◌-◌, ◌<◌, Bool, List, ◌++◌, length, Option, Some, slice_get, ap, sym, ◌∙◌, subst, arith, append_assoc}
+use Rattle.std.proofs.Common.{◌≡◌, ℕ, zero, suc, ◌+◌, ◌-◌, ◌<◌, ◌≤◌, Bool, List, ◌++◌, length, Option, Some, slice_get, ap, sym, ◌∙◌, subst, arith, append_assoc}
 use Rattle.std.specs.Prelude.{OnOk, OnErr, IfErr}
 use Rattle.std.specs.declared.result.Result.{Result}
 use Rattle.std.specs.declared.result.Result.TheVariants.{Ok, Err}
@@ -34,46 +34,19 @@ use Rattle.sq_core.specs.Meanings.{actors}
 use Rattle.sq_start.specs.Numbers.{first_output, ops_of}
 use Rattle.sq_core.specs.Answers.{Plans, KeepsAnswers}
 use Rattle.sq_core.specs.Runs.{IsSoundEngine, IsRun, ShownSoFar, Stopped}
-use Rattle.sq_core.proofs.SumLemmas.{sum-less}
 use Rattle.sq_flow.proofs.EventLemmas.{lines-append, plans-append, drops-append}
 use Rattle.sq_flow.proofs.DoneLemmas.{sums-agree}
 
-plans-in-front : (history xs ys : List Event) (left left' : List Shown) → plans_of xs ++ left ≡ plans_of ys ++ left' → plans_of (history ++ xs) ++ left ≡ plans_of (history ++ ys) ++ left'
-plans-in-front history xs ys left left' same =
-    ap (λ l. l ++ left) (plans-append history xs) ∙ append_assoc (plans_of history) (plans_of xs) left ∙ ap (λ l. plans_of history ++ l) same
-    ∙ sym (append_assoc (plans_of history) (plans_of ys) left') ∙ ap (λ l. l ++ left') (sym (plans-append history ys))
+-- what was shown before goes in front, of what takes parts of events one by one
+module _ {A : Type 0} (of : List Event → List A) (append : (xs ys : List Event) → of (xs ++ ys) ≡ of xs ++ of ys) where
+  after : (history xs : List Event) (left : List A) → of (history ++ xs) ++ left ≡ of history ++ (of xs ++ left)
+  after history xs left = ap (λ l. l ++ left) (append history xs) ∙ append_assoc (of history) (of xs) left
 
-decided-in-front : (w : ℕ) (history xs ys : List Event) (left left' : List Decision) → drops_of w xs ++ left ≡ drops_of w ys ++ left' → drops_of w (history ++ xs) ++ left ≡ drops_of w (history ++ ys) ++ left'
-decided-in-front w history xs ys left left' same =
-    ap (λ l. l ++ left) (drops-append w history xs) ∙ append_assoc (drops_of w history) (drops_of w xs) left ∙ ap (λ l. drops_of w history ++ l) same
-    ∙ sym (append_assoc (drops_of w history) (drops_of w ys) left') ∙ ap (λ l. l ++ left') (sym (drops-append w history ys))
+  in-front : (history xs ys : List Event) (left left' : List A) → of xs ++ left ≡ of ys ++ left' → of (history ++ xs) ++ left ≡ of (history ++ ys) ++ left'
+  in-front history xs ys left left' same = after history xs left ∙ ap (λ l. of history ++ l) same ∙ sym (after history ys left')
 
--- what was shown before goes in front
-in-front : (o : ℕ) (history xs ys : List Event) (left left' : List Tuple) → lines_of o xs ++ left ≡ lines_of o ys ++ left' → lines_of o (history ++ xs) ++ left ≡ lines_of o (history ++ ys) ++ left'
-in-front o history xs ys left left' same =
-    ap (λ l. l ++ left) (lines-append o history xs) ∙ append_assoc (lines_of o history) (lines_of o xs) left ∙ ap (λ l. lines_of o history ++ l) same
-    ∙ sym (append_assoc (lines_of o history) (lines_of o ys) left') ∙ ap (λ l. l ++ left') (sym (lines-append o history ys))
-
-prefix-front : {A : Type 0} (front xs ys : List A) → IsPrefixOf xs ys → IsPrefixOf (front ++ xs) (front ++ ys)
-prefix-front front xs ys h = (h.0, ap (λ l. front ++ l) h.1 ∙ sym (append_assoc front xs h.0))
-
-prefix-in-front : (o : ℕ) (history xs ys : List Event) (left : List Tuple) → IsPrefixOf (lines_of o ys) (lines_of o xs ++ left) → IsPrefixOf (lines_of o (history ++ ys)) (lines_of o (history ++ xs) ++ left)
-prefix-in-front o history xs ys left h =
-    subst (λ l. IsPrefixOf l (lines_of o (history ++ xs) ++ left)) (sym (lines-append o history ys))
-    (subst (λ l. IsPrefixOf (lines_of o history ++ lines_of o ys) l) (sym (ap (λ l. l ++ left) (lines-append o history xs) ∙ append_assoc (lines_of o history) (lines_of o xs) left))
-    (prefix-front (lines_of o history) (lines_of o ys) (lines_of o xs ++ left) h))
-
-decided-prefix-in-front : (w : ℕ) (history xs ys : List Event) (left : List Decision) → IsPrefixOf (drops_of w ys) (drops_of w xs ++ left) → IsPrefixOf (drops_of w (history ++ ys)) (drops_of w (history ++ xs) ++ left)
-decided-prefix-in-front w history xs ys left h =
-    subst (λ l. IsPrefixOf l (drops_of w (history ++ xs) ++ left)) (sym (drops-append w history ys))
-    (subst (λ l. IsPrefixOf (drops_of w history ++ drops_of w ys) l) (sym (ap (λ l. l ++ left) (drops-append w history xs) ∙ append_assoc (drops_of w history) (drops_of w xs) left))
-    (prefix-front (drops_of w history) (drops_of w ys) (drops_of w xs ++ left) h))
-
-plans-prefix-in-front : (history xs ys : List Event) (left : List Shown) → IsPrefixOf (plans_of ys) (plans_of xs ++ left) → IsPrefixOf (plans_of (history ++ ys)) (plans_of (history ++ xs) ++ left)
-plans-prefix-in-front history xs ys left h =
-    subst (λ l. IsPrefixOf l (plans_of (history ++ xs) ++ left)) (sym (plans-append history ys))
-    (subst (λ l. IsPrefixOf (plans_of history ++ plans_of ys) l) (sym (ap (λ l. l ++ left) (plans-append history xs) ∙ append_assoc (plans_of history) (plans_of xs) left))
-    (prefix-front (plans_of history) (plans_of ys) (plans_of xs ++ left) h))
+  prefix-in-front : (history xs ys : List Event) (left : List A) → IsPrefixOf (of ys) (of xs ++ left) → IsPrefixOf (of (history ++ ys)) (of (history ++ xs) ++ left)
+  prefix-in-front history xs ys left h = (h.0, after history xs left ∙ ap (λ l. of history ++ l) h.1 ∙ sym (after history ys h.0))
 
 -- the levels of the closed epochs are those of the replay
 pub agrees-of : (r : Replay) (flow : Flow Actor) (history : List Event) → Plans r flow history → AgreesWith flow.levels (batch_level r)
@@ -115,7 +88,7 @@ module _ (was is : Option Pages) (e e' : Engine) (events events' : List Event) (
         record {
           setting = stepped.planner ∙ plans.setting;
           planned = stepped.planned (counts_in r) plans.planned;
-          shown = sym (plans-in-front history events events' (plans_left e.engine.flow) (plans_left e'.engine.flow) stepped.plans) ∙ plans.shown;
+          shown = sym (in-front plans_of plans-append history events events' (plans_left e.engine.flow) (plans_left e'.engine.flow) stepped.plans) ∙ plans.shown;
         }
 
     answers-after : (r : Replay) (history : List Event) → e.network ≡ r.network → IsSoundEngine e → Tells is → AgreesWith e'.engine.flow.levels (batch_level r)
@@ -125,13 +98,13 @@ module _ (was is : Option Pages) (e e' : Engine) (events events' : List Event) (
         record {
           holds = stepped.holds told (batch_level r) agrees a.holds;
           lines = λ output low.
-              sym (in-front output history events events' (lines_left actors (batch_level r) (items_in e.engine.flow was) e.engine.flow output) (lines_left actors (batch_level r) (items_in e'.engine.flow is) e'.engine.flow output)
+              sym (in-front (lines_of output) (lines-append output) history events events' (lines_left actors (batch_level r) (items_in e.engine.flow was) e.engine.flow output) (lines_left actors (batch_level r) (items_in e'.engine.flow is) e'.engine.flow output)
               (goes.lines output (shown-in e r.network given sound output low)))
               ∙ a.lines output low;
           drops = λ w p there.
               let k = ap (λ v. v.sheds) stepped.wires in
               ap (λ z. drops_of w (history ++ events') ++ decisions_left actors (batch_level r) (items_in e'.engine.flow is) e'.engine.flow (z + w)) k
-              ∙ sym (decided-in-front w history events events' (decisions_left actors (batch_level r) (items_in e.engine.flow was) e.engine.flow (e.engine.flow.wires.sheds + w))
+              ∙ sym (in-front (drops_of w) (drops-append w) history events events' (decisions_left actors (batch_level r) (items_in e.engine.flow was) e.engine.flow (e.engine.flow.wires.sheds + w))
               (decisions_left actors (batch_level r) (items_in e'.engine.flow is) e'.engine.flow (e.engine.flow.wires.sheds + w)) (goes.drops w (shed-in e r.network given sound w p there)))
               ∙ a.drops w p there;
           fed = λ at low. sym (goes.fed at (box-in e r.network given sound at low)) ∙ a.fed at low;
@@ -190,12 +163,12 @@ module _ (was is : Option Pages) (e e' : Engine) (events events' : List Event) (
         so_far = record {
           lines = λ output low.
               subst (IsPrefixOf (lines_of output (history ++ events'))) (a.lines output low)
-              (prefix-in-front output history events events' (lines_left actors (batch_level r) (items_in e.engine.flow was) e.engine.flow output) (begins.lines output (shown-in e r.network run.network run.sound output low)));
+              (prefix-in-front (lines_of output) (lines-append output) history events events' (lines_left actors (batch_level r) (items_in e.engine.flow was) e.engine.flow output) (begins.lines output (shown-in e r.network run.network run.sound output low)));
           drops = λ w p there.
               subst (IsPrefixOf (drops_of w (history ++ events'))) (a.drops w p there)
-              (decided-prefix-in-front w history events events' (decisions_left actors (batch_level r) (items_in e.engine.flow was) e.engine.flow (e.engine.flow.wires.sheds + w))
+              (prefix-in-front (drops_of w) (drops-append w) history events events' (decisions_left actors (batch_level r) (items_in e.engine.flow was) e.engine.flow (e.engine.flow.wires.sheds + w))
               (begins.drops w (shed-in e r.network run.network run.sound w p there)));
-          plans = subst (IsPrefixOf (plans_of (history ++ events'))) run.plans.shown (plans-prefix-in-front history events events' (plans_left e.engine.flow) planned.shown);
+          plans = subst (IsPrefixOf (plans_of (history ++ events'))) run.plans.shown (prefix-in-front plans_of plans-append history events events' (plans_left e.engine.flow) planned.shown);
           work = (let most = cost told (batch_level r) agrees a.holds in let all = a.work in let counted = run.counted in omega (arith, most, all, counted));
         };
         named = strange told (batch_level r) agrees a.holds;
@@ -203,6 +176,10 @@ module _ (was is : Option Pages) (e e' : Engine) (events events' : List Event) (
       }
 
 -- ---- at any time
+
+sum-less : (f g : ℕ → ℕ) (n : ℕ) → ((i : ℕ) → f i ≤ g i) → sum_below f n ≤ sum_below g n
+sum-less f g zero h = omega arith
+sum-less f g (suc n) h = (let here = h n in let more = sum-less f g n h in omega (arith, here, more))
 
 pub shown-so-far : (e : Engine) (r : Replay) (pages : Option Pages) (history : List Event) (begun steps : ℕ) → Tells pages
     → IsRun r pages e history begun steps → ShownSoFar r history begun steps

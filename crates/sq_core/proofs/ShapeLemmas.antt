@@ -6,10 +6,9 @@ use Rattle.sq_left.specs.Remainder.{Net, is_known_actor, IsLaidOut}
 use Rattle.sq_left.proofs.MergeLemmas.{eqb-not}
 use Rattle.sq_flow.specs.declared.wires.Arc.{Arc}
 use Rattle.sq_flow.specs.declared.wires.Wires.{Wires}
-use Rattle.sq_flow.specs.Wiring.{net_of, arcs_read, arcs_from, followers_of, Climbs, from_of, arc_port, numbers_in, rows_in, times_in, IsShaped}
+use Rattle.sq_flow.specs.Wiring.{net_of, arcs_read, arcs_from, followers_of, Climbs, from_of, arc_port, times_in, IsShaped}
 use Rattle.sq_core.specs.declared.join.Feed.{Feed}
-use Rattle.sq_core.specs.Joining.{feeds_of, IsGiver, AreFeeds, IsOf, IsJoining, IsJoined, IsActorOrder, ReadsEarlier, AllKnown, known_by, Fixed}
-use Rattle.sq_words.specs.Lists.{contains_number}
+use Rattle.sq_core.specs.Joining.{feeds_of, IsGiver, AreFeeds, CanJoin, IsOf, IsJoining, IsJoined, IsActorOrder, JoinsAll, ReadsEarlier, AllKnown, known_by, Fixed}
 use Rattle.sq_left.proofs.WorldSteps.{Each-from}
 use Rattle.sq_words.proofs.Numbers.{eqb_true}
 
@@ -70,7 +69,7 @@ module _ (shown : ℕ) (feeds : List (Vec Feed Global)) (w : Wires) (are : AreFe
         ]
       ]
 
-  pub joined-all : IsJoined feeds w
+  joined-all : IsJoined feeds w
   joined-all = record { many = many; fed = i.fed }
 
   outputs-end : (actor port : ℕ) → shown ≤ actor → actor < length feeds → arcs_from w actor port ≡ []
@@ -79,7 +78,7 @@ module _ (shown : ℕ) (feeds : List (Vec Feed Global)) (w : Wires) (are : AreFe
       let other : actor ≢ from_of (slice_get w.arcs.items arc) = λ e. no-giver shown (length feeds) actor high low (subst (IsGiver shown (length feeds)) (sym e) (i.from_in arc there)) in
       i.read actor port arc there ∙ ap (λ b. cond b (cond (eqb port (arc_port (slice_get w.arcs.items arc))) 1 0) 0) (eqb-not actor (from_of (slice_get w.arcs.items arc)) other))
 
-  pub shaped-all : w.shown ≡ shown → w.sheds ≤ shown → shown ≤ length feeds → IsActorOrder (length feeds) feeds w.order.items → IsShaped w (length feeds)
+  shaped-all : w.shown ≡ shown → w.sheds ≤ shown → shown ≤ length feeds → IsActorOrder (length feeds) feeds w.order.items → IsShaped w (length feeds)
   shaped-all same sheds low order =
       record {
         replay_is = replay;
@@ -105,55 +104,16 @@ module _ (shown : ℕ) (feeds : List (Vec Feed Global)) (w : Wires) (are : AreFe
         ordered = λ actor low. known-same (net_of w) w.order.items actor ∙ ap (λ r. known_by r w.order.items actor) replay ∙ order.ordered actor low;
       }
 
-abbrev no-numbers : List ℕ
-no-numbers = []
-
--- wires with no arc
-pub joining-none : (shown : ℕ) (feeds : List (Vec Feed Global)) (w : Wires) → length w.inputs.items ≡ length feeds → length w.readers.items ≡ length feeds + 1 → w.arcs.items ≡ []
-    → ((r : ℕ) → numbers_in (slice_get w.inputs.items r) ≡ []) → ((r : ℕ) → rows_in (slice_get w.readers.items r) ≡ [])
-    → length w.followers.items ≡ length feeds + 1 → ((r : ℕ) → numbers_in (slice_get w.followers.items r) ≡ []) → IsJoining shown feeds 0 0 w
-joining-none shown feeds w inputs readers none rows bare followers unfollowed =
-    record {
-      inputs_len = inputs;
-      readers_len = readers;
-      count = (let z = ap length none in omega (arith, z));
-      before = λ actor low. absurd (omega (arith, low));
-      now = ap length (rows 0);
-      later = λ actor high. ap length (rows actor);
-      arcs_in = λ actor port arc is. no-read actor port arc is;
-      from_in = λ arc low. absurd (no-arc arc low);
-      joined = λ actor port arc is. no-read actor port arc is;
-      fed = λ actor port arc is. no-read actor port arc is;
-      read = λ actor port arc low. absurd (no-arc arc low);
-      readers_in = λ actor port place arc is. no-from actor port place arc is;
-      followers_len = followers;
-      followed = λ arc low. absurd (no-arc arc low);
-      followers_low = λ actor follower h. no-follower actor follower h;
-      climbs = λ actor. subst Climbs (sym (unfollowed actor)) _;
-    }
-  where
-    no-arc : (arc : ℕ) → arc < length w.arcs.items → ⊥
-    no-arc arc low = (let z = ap length none in omega (arith, low, z))
-
-    no-read : {P : Type 0} (actor port arc : ℕ) → slice_get (arcs_read w actor) port ≡ Some arc → P
-    no-read actor port arc is = (let h : slice_get (no-numbers) port ≡ Some arc = ap (λ xs. slice_get xs port) (sym (rows actor)) ∙ is in cc h)
-
-    no-follower : {P : Type 0} (actor follower : ℕ) → contains_number (followers_of w actor) follower ≡ true → P
-    no-follower actor follower h = (let no : false ≡ true = ap (λ xs. contains_number xs follower) (sym (unfollowed actor)) ∙ h in cc no)
-
-    no-from : {P : Type 0} (actor port place arc : ℕ) → slice_get (arcs_from w actor port) place ≡ Some arc → P
-    no-from actor port place arc is = (let h : slice_get (no-numbers) place ≡ Some arc = ap (λ vs. slice_get (numbers_in (slice_get vs port)) place) (sym (bare actor)) ∙ is in cc h)
-
 -- all ports of an operator are joined
-pub joining-next : (shown : ℕ) (feeds : List (Vec Feed Global)) (at : ℕ) (w : Wires) → AreFeeds shown feeds → IsJoining shown feeds at (length (feeds_of feeds at)) w → IsJoining shown feeds (at + 1) 0 w
-joining-next shown feeds at w are i =
+pub joining-next : (shown : ℕ) (feeds : List (Vec Feed Global)) (at place : ℕ) (w : Wires) → AreFeeds shown feeds → IsJoining shown feeds at place w → place ≡ length (feeds_of feeds at) → IsJoining shown feeds (at + 1) 0 w
+joining-next shown feeds at place w are i is =
     record {
       inputs_len = i.inputs_len;
       readers_len = i.readers_len;
-      count = (let c = i.count in let p = are.ports at in omega (arith, c, p));
+      count = (let c = i.count in let p = are.ports at in omega (arith, c, p, is));
       before = λ actor low. elim (cases_lt actor at) [
         | inl less ↦ i.before actor less
-        | inr past ↦ (let e : actor ≡ at = omega (arith, low, past) in subst (λ x. length (arcs_read w x) ≡ length (feeds_of feeds x)) (sym e) i.now)
+        | inr past ↦ (let e : actor ≡ at = omega (arith, low, past) in subst (λ x. length (arcs_read w x) ≡ length (feeds_of feeds x)) (sym e) (i.now ∙ is))
       ];
       now = i.later (at + 1) (omega arith);
       later = λ actor high. i.later actor (omega (arith, high));
@@ -165,18 +125,22 @@ joining-next shown feeds at w are i =
       readers_in = i.readers_in;
       followers_len = i.followers_len;
       followed = i.followed;
-      followers_low = λ actor follower h. (let low = i.followers_low actor follower h in let p = are.ports at in omega (arith, low, p));
+      followers_low = λ actor follower h. (let low = i.followers_low actor follower h in let p = are.ports at in omega (arith, low, p, is));
       climbs = i.climbs;
     }
 
-pub joining-past : (shown : ℕ) (feeds : List (Vec Feed Global)) (at place : ℕ) (w : Wires) → AreFeeds shown feeds → IsJoining shown feeds at place w → place ≡ length (feeds_of feeds at) → IsJoining shown feeds (at + 1) 0 w
-joining-past shown feeds at place w are i is = joining-next shown feeds at w are (subst (λ p. IsJoining shown feeds at p w) is i)
-
-pub joined-done : (shown : ℕ) (feeds : List (Vec Feed Global)) (at : ℕ) (w : Wires) → AreFeeds shown feeds → IsJoining shown feeds at 0 w → at ≡ length feeds → w.replay ≡ length feeds → IsJoined feeds w
-joined-done shown feeds at w are i is replay = joined-all shown feeds w are (subst (λ p. IsJoining shown feeds p 0 w) is i) replay
-
-pub shaped-done : (feeds : List (Vec Feed Global)) (at : ℕ) (first w : Wires) → AreFeeds first.shown feeds → IsJoining first.shown feeds at 0 w → Fixed first w → at ≡ length feeds
-    → first.replay ≡ length feeds → first.sheds ≤ first.shown → first.shown ≤ length feeds → IsActorOrder (length feeds) feeds first.order.items → IsShaped w (length feeds)
-shaped-done feeds at first w are i fixed is replay sheds low order =
-    shaped-all first.shown feeds w are (subst (λ p. IsJoining first.shown feeds p 0 w) is i) (fixed.replay ∙ replay) fixed.shown (let same = fixed.sheds in omega (arith, same, sheds)) low
-    (subst (λ o. IsActorOrder (length feeds) feeds o.items) (sym fixed.order) order)
+-- wires that were joined to the last operator join all
+pub joined-whole : (sheds shown : ℕ) (feeds : List (Vec Feed Global)) (order : Vec ℕ Global) (at : ℕ) (first w : Wires) → CanJoin sheds shown feeds order.items → at ≡ length feeds → IsJoining shown feeds at 0 w
+    → Fixed first w → first.replay ≡ length feeds → first.sheds ≡ sheds → first.shown ≡ shown → first.order ≡ order → JoinsAll sheds shown feeds order w
+joined-whole sheds shown feeds order at first w can is joining fixed replay drops outputs list =
+    let all = subst (λ p. IsJoining shown feeds p 0 w) is joining in
+    let end = fixed.replay ∙ replay in
+    let low = can.sheds in
+    let same = fixed.sheds ∙ drops in
+    record {
+      shaped = shaped-all shown feeds w can.feeds all end (fixed.shown ∙ outputs) (omega (arith, low, same)) can.shown (subst (λ o. IsActorOrder (length feeds) feeds o.items) (sym (fixed.order ∙ list)) can.order);
+      joined = joined-all shown feeds w can.feeds all end;
+      sheds = same;
+      shown = fixed.shown ∙ outputs;
+      order = fixed.order ∙ list;
+    }

@@ -1,9 +1,7 @@
 -- The table of a network can be joined, and wires of it join the network.
-use Rattle.std.proofs.Common.{◌≡◌, ℕ, zero, suc, ◌+◌, ◌-◌, ◌<◌, ◌≤◌, true, List, [], ◌∷◌, ◌++◌, map, length, Option, Some, None, Vec, slice_get, refl, ap, sym, ◌∙◌, subst, arith, inl, inr}
-use Rattle.std.specs.Prelude.{IfOk, is_some}
+use Rattle.std.proofs.Common.{◌≡◌, ℕ, zero, suc, ◌+◌, ◌-◌, ◌<◌, ◌≤◌, Bool, true, List, [], ◌∷◌, ◌++◌, map, length, Option, Some, None, Vec, slice_get, refl, ap, sym, ◌∙◌, subst, arith, inl, inr}
+use Rattle.std.specs.Prelude.{is_some}
 use Rattle.std.specs.Option.{option_map}
-use Rattle.std.specs.declared.result.Result.{Result}
-use Rattle.std.specs.declared.result.Result.TheVariants.{Ok, Err}
 use Rattle.std.specs.List.{All, AllByRecursion, flat_map, range_with_len}
 use Rattle.std.specs.declared.alloc.Global.{Global}
 use Rattle.std.proofs.lemmas.Bool.{cases_lt}
@@ -11,6 +9,7 @@ use Rattle.std.proofs.lemmas.Option.{slice_get_within}
 use Rattle.std.proofs.lemmas.List.{length-map}
 use Rattle.std.proofs.lemmas.List.FromFn.{length-map-range_with_len}
 use Rattle.std.proofs.lemmas.List.Elements.{recursion_from_All}
+use Rattle.sq_value.specs.declared.Kind.{Kind}
 use Rattle.sq_words.specs.Lists.{numbers_to}
 use Rattle.sq_graph.specs.declared.BoxWires.{BoxWires}
 use Rattle.sq_graph.specs.Wires.{producer_of, producers_of, arcs_of, arc_at, inputs_at, inputs_of, input_arcs_of, output_arc_at}
@@ -25,40 +24,34 @@ use Rattle.sq_place.proofs.Exact.{range-get}
 use Rattle.sq_place.proofs.Numbering.{numbered_more}
 use Rattle.sq_place.proofs.Wires.{arcs-there}
 use Rattle.sq_net.specs.declared.Network.{Network}
-use Rattle.sq_net.specs.SoundNetworks.{IsSound, is_between}
-use Rattle.sq_net.specs.Streams.{columns_of_stream}
+use Rattle.sq_net.specs.SoundNetworks.{IsSound}
 use Rattle.sq_points.specs.Points.{points_of}
 use Rattle.sq_points.proofs.Plannable.{few-points}
 use Rattle.sq_model.specs.GivenLevels.{IsAt}
 use Rattle.sq_model.proofs.PlacedLemmas.{placed_of}
 use Rattle.sq_below.specs.ArcContents.{Drop}
-use Rattle.sq_below.specs.Actors.{Actor, Sources, Box, Shedder, Shower, giver, from_drop, arc_from}
+use Rattle.sq_below.specs.Actors.{Actor, Sources, Box, WindowDrop, OutputGate, giver, from_drop, arc_from}
 use Rattle.sq_start.specs.Numbers.{IsThere, first_output, ops_of, number_of, actor_at, place_stream}
 use Rattle.sq_start.proofs.NumberLemmas.{box-at, drop-at, output-at, giver-there, from-there}
 use Rattle.sq_flow.specs.declared.wires.Wires.{Wires}
 use Rattle.sq_flow.specs.Wiring.{arcs_read, arc_wired as wire_at}
 use Rattle.sq_core.specs.declared.join.Feed.{Feed}
 use Rattle.sq_core.specs.Joining.{feeds_of, IsGiver, AreFeeds, IsOf, IsJoined}
-use Rattle.sq_core.specs.Table.{kinds_on, arc_feed, place_feed, point_row, feeds_row, feed_table, IsTabled}
+use Rattle.sq_core.specs.Table.{arc_feed, place_feed, feed_from, point_row, feeds_row, feed_table, IsTabled}
 use Rattle.sq_core.proofs.PointLemmas.{streams_are}
 use Rattle.sq_core.proofs.ShapeLemmas.{no-feeds}
-use Rattle.sq_words.proofs.Bools.{and_true}
-use Rattle.sq_points.proofs.Bounds.{at_most}
-use Rattle.sq_words.proofs.Lists.{map_append}
+use Rattle.sq_points.proofs.Bounds.{at_most, counts, few_outputs}
+use Rattle.sq_words.proofs.Alls.{all_append, all_at}
+use Rattle.sq_words.proofs.Lists.{has_item, map_append}
 use Rattle.sq_points.specs.Above.{drop_above_arc, drop_on_arc}
 
 -- ---- how many
 
 pub boxes_low : (n : Network) → IsSound n → length n.boxes ≤ 128
-boxes_low n sound =
-    let few : is_between 0 128 (length n.boxes) ≡ true = (and_true _ _ (and_true _ _ (and_true _ _ (and_true _ _ (and_true _ _ (and_true _ _ (and_true _ _ (and_true _ _ sound.within).0).0).0).0).0).0).0).1 in
-    at_most 0 128 (length n.boxes) few
+boxes_low n sound = at_most 0 128 (length n.boxes) (counts n sound.within).1
 
 pub outputs_low : (n : Network) → IsSound n → length n.wires.outputs ≤ 32
-outputs_low n sound =
-    let few : is_between 1 32 (length n.outputs) ≡ true = (and_true _ _ (and_true _ _ (and_true _ _ (and_true _ _ (and_true _ _ (and_true _ _ (and_true _ _ sound.within).0).0).0).0).0).0).1 in
-    let low : length n.outputs ≤ 32 = at_most 1 32 (length n.outputs) few in
-    subst (λ k. k ≤ 32) (sym sound.agrees.outputs) low
+outputs_low n sound = subst (λ k. k ≤ 32) (sym sound.agrees.outputs) (few_outputs n sound)
 
 pub points_low : (n : Network) → IsSound n → length (points_of n) ≤ 32
 points_low n sound = few-points n sound
@@ -74,13 +67,9 @@ range-all P first zero i h low = absurd (omega (arith, low))
 range-all P first (suc len) zero h low = (let e : first ≡ first + 0 = omega arith in subst P e h.0)
 range-all P first (suc len) (suc i) h low = (let e : first + 1 + i ≡ first + suc i = omega arith in subst P e (range-all P (first + 1) len i h.1 (omega (arith, low))))
 
-all-append : (P : ℕ → Type 0) (xs ys : List ℕ) → AllByRecursion P xs → AllByRecursion P ys → AllByRecursion P (xs ++ ys)
-all-append P [] ys h k = k
-all-append P (x ∷ xs) ys h k = (h.0, all-append P xs ys h.1 k)
-
 all-inputs : (P : ℕ → Type 0) (bs : List BoxWires) → AllByRecursion (λ (b : BoxWires). All P b.inputs) bs → AllByRecursion P (flat_map (λ b. b.inputs) bs)
 all-inputs P [] h = _
-all-inputs P (b ∷ bs) h = all-append P b.inputs (flat_map (λ b. b.inputs) bs) (recursion_from_All P b.inputs h.0) (all-inputs P bs h.1)
+all-inputs P (b ∷ bs) h = all_append P b.inputs (flat_map (λ b. b.inputs) bs) (recursion_from_All P b.inputs h.0) (all-inputs P bs h.1)
 
 few-at : (bs : List BoxWires) (at : ℕ) → AllByRecursion (λ b. length b.inputs ≤ 8) bs → length (inputs_at (slice_get bs at)) ≤ 8
 few-at [] at h = omega arith
@@ -106,8 +95,8 @@ map-at F P each (s ∷ ss) (suc port) f is = map-at F P each ss port f is
 abbrev IsNoOutput : Actor → Type 0
 IsNoOutput Sources = Unit {0}
 IsNoOutput (Box b) = Unit {0}
-IsNoOutput (Shedder w) = Unit {0}
-IsNoOutput (Shower o) = ⊥
+IsNoOutput (WindowDrop w) = Unit {0}
+IsNoOutput (OutputGate o) = ⊥
 
 module _ (n : Network) (sound : IsSound n) where
   abbrev There : ℕ → Type 0
@@ -115,33 +104,28 @@ module _ (n : Network) (sound : IsSound n) where
 
   pub arc_stream_there : (a : ℕ) → a < length (arcs_of n.wires) → is_there (producer_of n.wires (stream_on n.wires a)) ≡ true
   arc_stream_there a low =
-      let all = all-append There _ n.wires.outputs
+      let all = all_append There _ n.wires.outputs
       (all-inputs There n.wires.boxes (recursion_from_All (λ (b : BoxWires). All There b.inputs) n.wires.boxes sound.agrees.wired)) (recursion_from_All There n.wires.outputs sound.agrees.shown) in
       let z : 0 + a ≡ a = omega arith in
       subst (λ x. There (stream_on n.wires x)) z (range-all (λ x. There (stream_on n.wires x)) 0 (length (arcs_of n.wires)) a
       (all-mapped There (stream_on n.wires) (numbers_to (length (arcs_of n.wires))) (subst (AllByRecursion There) (streams_are n) all)) low)
 
   pub place_stream_there : (place : DropAt) → IsAt n place → is_there (producer_of n.wires (place_stream n place)) ≡ true
-  place_stream_there (at.Stream s) low = (let p = some-producer (producers_of n.wires) s low in ap is_there p.1)
-    where
-      some-producer : (ps : List Producer) (s : ℕ) → s < length ps → (p : Producer) × (slice_get ps s ≡ Some p)
-      some-producer [] s h = absurd (omega (arith, h))
-      some-producer (p ∷ ps) zero h = (p, refl)
-      some-producer (p ∷ ps) (suc s) h = some-producer ps s (omega (arith, h))
+  place_stream_there (at.Stream s) low = (let p = has_item (producers_of n.wires) s low in ap is_there p.1)
   place_stream_there (at.Arc a) low = arc_stream_there a low
 
   -- a fact of all feeds
   pub row-feeds : (P : Feed → Type 0) → ((a : ℕ) → P (arc_feed n a)) → ((p : DropPoint) → P (place_feed n p)) → (x : Actor) (port : ℕ) (f : Feed) → slice_get (feeds_row n x) port ≡ Some f → P f
   row-feeds P arc place Sources port f is = cc is
   row-feeds P arc place (Box b) port f is = map-at (arc_feed n) P arc (input_arcs_of n.wires b) port f is
-  row-feeds P arc place (Shedder w) port f is = by (slice_get (points_of n) w) port is
+  row-feeds P arc place (WindowDrop w) port f is = by (slice_get (points_of n) w) port is
     where
       by : (o : Option DropPoint) (port : ℕ) → slice_get (point_row n o) port ≡ Some f → P f
       by None port is = cc is
       by (Some p) zero is = (let e : place_feed n p ≡ f = cc is in subst P e (place p))
       by (Some p) (suc port) is = cc is
-  row-feeds P arc place (Shower o) zero f is = (let e : arc_feed n (output_arc_at n.wires o) ≡ f = cc is in subst P e (arc (output_arc_at n.wires o)))
-  row-feeds P arc place (Shower o) (suc port) f is = cc is
+  row-feeds P arc place (OutputGate o) zero f is = (let e : arc_feed n (output_arc_at n.wires o) ≡ f = cc is in subst P e (arc (output_arc_at n.wires o)))
+  row-feeds P arc place (OutputGate o) (suc port) f is = cc is
 
   few-in-row : (x : Actor) → length (feeds_row n x) ≤ 8
   few-in-row Sources = omega arith
@@ -150,12 +134,12 @@ module _ (n : Network) (sound : IsSound n) where
       let c = length-map-range_with_len (arc_at n.wires b) 0 (length (inputs_of n.wires b)) in
       let f = few-at n.wires.boxes b (recursion_from_All (λ b. length b.inputs ≤ 8) n.wires.boxes (placed_of n sound).few_inputs) in
       omega (arith, a, c, f)
-  few-in-row (Shedder w) = by (slice_get (points_of n) w)
+  few-in-row (WindowDrop w) = by (slice_get (points_of n) w)
     where
       by : (o : Option DropPoint) → length (point_row n o) ≤ 8
       by None = omega arith
       by (Some p) = omega arith
-  few-in-row (Shower o) = omega arith
+  few-in-row (OutputGate o) = omega arith
 
   giver-gives : (s : ℕ) → IsGiver (first_output n) (ops_of n) (number_of n (giver (producer_of n.wires s)).0)
   giver-gives s = by (giver (producer_of n.wires s)).0 (giver-there n sound s) (never-shown (producer_of n.wires s))
@@ -168,8 +152,8 @@ module _ (n : Network) (sound : IsSound n) where
       by : (x : Actor) → IsThere n x → IsNoOutput x → IsGiver (first_output n) (ops_of n) (number_of n x)
       by Sources t away = inr refl
       by (Box b) t away = inl (omega (arith, t))
-      by (Shedder w) t away = inl (omega (arith, t))
-      by (Shower o) t away = absurd away
+      by (WindowDrop w) t away = inl (omega (arith, t))
+      by (OutputGate o) t away = absurd away
 
   from-gives : (a : ℕ) → IsGiver (first_output n) (ops_of n) (number_of n (arc_from n a).0)
   from-gives a = by (drop_on_arc n a) (from-there n sound a)
@@ -210,16 +194,6 @@ module _ (n : Network) (sound : IsSound n) where
       ports-many : (actor : ℕ) → actor < ops_of n → length (arcs_read w actor) ≡ length (feeds_row n (actor_at n actor))
       ports-many actor low = joined.many actor ∙ ap (λ (l : List Feed). length l) (row-is actor low)
 
-      within : (xs : List Feed) (i : ℕ) (x : Feed) → slice_get xs i ≡ Some x → i < length xs
-      within [] i x is = cc is
-      within (y ∷ xs) zero x is = omega arith
-      within (y ∷ xs) (suc i) x is = (let h = within xs i x is in omega (arith, h))
-
-      some-at : (xs : List ℕ) (i : ℕ) → i < length xs → (x : ℕ) × (slice_get xs i ≡ Some x)
-      some-at [] i h = absurd (omega (arith, h))
-      some-at (x ∷ xs) zero h = (x, refl)
-      some-at (x ∷ xs) (suc i) h = some-at xs i (omega (arith, h))
-
       none-in : (xs : List ℕ) → length xs ≡ 0 → xs ≡ []
       none-in [] h = refl
       none-in (x ∷ xs) h = absurd (omega (arith, h))
@@ -229,9 +203,9 @@ module _ (n : Network) (sound : IsSound n) where
           record {
             many = ports-many;
             each = λ actor port f low is.
-                let inside = within (feeds_row n (actor_at n actor)) port f is in
+                let inside = slice_get_within (feeds_row n (actor_at n actor)) port f is in
                 let m = ports-many actor low in
-                let a = some-at (arcs_read w actor) port (omega (arith, inside, m)) in
+                let a = has_item (arcs_read w actor) port (omega (arith, inside, m)) in
                 let here : slice_get (feeds_of feeds actor) port ≡ Some f = ap (λ l. slice_get l port) (row-is actor low) ∙ is in
                 subst (λ o. IsOf (wire_at w o) (Some f)) (sym a.1) (subst (IsOf (slice_get w.arcs.items a.0)) here (joined.fed actor port a.0 a.1));
             no_more = λ actor past. none-in (arcs_read w actor) (let c = count-is in joined.many actor ∙ ap (λ (l : List Feed). length l) (no-feeds feeds actor (omega (arith, c, past))));
@@ -239,20 +213,22 @@ module _ (n : Network) (sound : IsSound n) where
 
 -- ---- a feed, and a row, as it is made
 
-pub arc-feed-is : (n : Network) (a : ℕ) (f : Feed) (x : Actor × ℕ) → arc_from n a ≡ x → f.from ≡ number_of n x.0 → f.port ≡ x.1 → f.kinds ≡ kinds_on (columns_of_stream n (stream_on n.wires a))
-    → f.marked ≡ is_some (drop_above_arc n a) → f ≡ arc_feed n a
-arc-feed-is n a f x from actor port kinds marked =
-    ap (λ k. record { from = k; port = f.port; kinds = f.kinds; marked = f.marked }) (actor ∙ ap (λ y. number_of n y.0) (sym from))
-    ∙ ap (λ k. record { from = number_of n (arc_from n a).0; port = k; kinds = f.kinds; marked = f.marked }) (port ∙ ap (λ y. y.1) (sym from))
-    ∙ ap (λ k. record { from = number_of n (arc_from n a).0; port = (arc_from n a).1; kinds = k; marked = f.marked }) kinds
-    ∙ ap (λ k. record { from = number_of n (arc_from n a).0; port = (arc_from n a).1; kinds = kinds_on (columns_of_stream n (stream_on n.wires a)); marked = k }) marked
+pub arc-feed-is : (n : Network) (a s : ℕ) (marked : Bool) (x : Actor × ℕ) (f : Feed) → f ≡ feed_from n s marked x → s ≡ stream_on n.wires a → marked ≡ is_some (drop_above_arc n a) → x ≡ arc_from n a → f ≡ arc_feed n a
+arc-feed-is n a s marked x f is stream below from =
+    is ∙ ap (λ z. feed_from n z marked x) stream ∙ ap (λ b. feed_from n (stream_on n.wires a) b x) below
+    ∙ ap (feed_from n (stream_on n.wires a) (is_some (drop_above_arc n a))) from
 
-pub from-drop : (n : Network) (a k : ℕ) → Some k ≡ option_map (λ d. d.0) (drop_on_arc n a) → arc_from n a ≡ (Shedder k, 0)
+pub feed-same : (from from' port : ℕ) (kinds kinds' : List Kind) (marked : Bool) → from ≡ from' → kinds ≡ kinds'
+    → ◌≡◌ {A = Feed} (record { from = from; port = port; kinds = kinds; marked = marked }) (record { from = from'; port = port; kinds = kinds'; marked = marked })
+feed-same from from' port kinds kinds' marked same alike =
+    ap (λ k. record { from = k; port = port; kinds = kinds; marked = marked }) same ∙ ap (λ ks. record { from = from'; port = port; kinds = ks; marked = marked }) alike
+
+pub from-drop : (n : Network) (a k : ℕ) → Some k ≡ option_map (λ d. d.0) (drop_on_arc n a) → arc_from n a ≡ (WindowDrop k, 0)
 from-drop n a k = by (drop_on_arc n a)
   where
-    by : (o : Option Drop) → Some k ≡ option_map (λ d. d.0) o → from_drop n o a ≡ (Shedder k, 0)
+    by : (o : Option Drop) → Some k ≡ option_map (λ d. d.0) o → from_drop n o a ≡ (WindowDrop k, 0)
     by None is = cc is
-    by (Some d) is = (let e : k ≡ d.0 = cc is in ap (λ w. (Shedder w, 0)) (sym e))
+    by (Some d) is = (let e : k ≡ d.0 = cc is in ap (λ w. (WindowDrop w, 0)) (sym e))
 
 pub from-giver : (n : Network) (a : ℕ) → None ≡ option_map (λ (d : Drop). d.0) (drop_on_arc n a) → arc_from n a ≡ giver (producer_of n.wires (stream_on n.wires a))
 from-giver n a = by (drop_on_arc n a)
@@ -279,20 +255,6 @@ pub row-more : (f : ℕ → List Feed) (k : ℕ) (row : Vec Feed Global) (old ne
 row-more f k row old new more so-far is =
     numbered_more f k row.items (map (λ v. v.items) old) (map (λ v. v.items) new) (ap (map (λ v. v.items)) more ∙ map_append (λ (v : Vec Feed Global). v.items) old (row ∷ [])) so-far is
 
-all-at : (P : ℕ → Type 0) (xs : List ℕ) (i x : ℕ) → AllByRecursion P xs → slice_get xs i ≡ Some x → P x
-all-at P [] i x h is = cc is
-all-at P (y ∷ xs) zero x h is = (let e : y ≡ x = cc is in subst P e h.0)
-all-at P (y ∷ xs) (suc i) x h is = all-at P xs i x h.1 is
-
-some-box : (bs : List BoxWires) (at : ℕ) → at < length bs → (b : BoxWires) × (slice_get bs at ≡ Some b)
-some-box [] at h = absurd (omega (arith, h))
-some-box (b ∷ bs) zero h = (b, refl)
-some-box (b ∷ bs) (suc at) h = some-box bs at (omega (arith, h))
-
 -- an input's arc is there
 pub input-low : (n : Network) (at port a : ℕ) → at < length n.wires.boxes → slice_get (input_arcs_of n.wires at) port ≡ Some a → a < length (arcs_of n.wires)
-input-low n at port a low is = (let b = some-box n.wires.boxes at low in all-at (λ x. x < length (arcs_of n.wires)) (input_arcs_of n.wires at) port a (arcs-there n.wires at b.0 b.1) is)
-
-pub if-three : {A E : Type 0} (r : Result A E) (P Q S R : A → Type 0) → ((a : A) → P a → Q a → S a → R a) → IfOk r P → IfOk r Q → IfOk r S → IfOk r R
-if-three (Ok a) P Q S R f p q s = f a p q s
-if-three (Err e) P Q S R f p q s = _
+input-low n at port a low is = (let b = has_item n.wires.boxes at low in all_at (λ x. x < length (arcs_of n.wires)) (input_arcs_of n.wires at) port a (arcs-there n.wires at b.0 b.1) is)

@@ -1,4 +1,4 @@
--- What is left of the answers of a replay.
+-- What is pending of the answers of a replay: what was shown, and then what is left, is what the replay says.
 use Rattle.std.specs.Prelude.{◌≡◌, ℕ, ◌+◌, ◌<◌, ◌≤◌, ◌++◌, List, length, Some, slice_get}
 use Rattle.sq_item.specs.declared.Item.{Item}
 use Rattle.sq_oper.specs.declared.outs.Event.{Event}

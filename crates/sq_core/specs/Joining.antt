@@ -4,7 +4,7 @@ use Rattle.std.specs.Prelude.{slice_get, if◌then◌else◌}
 use Rattle.std.specs.declared.alloc.Global.{Global}
 use Rattle.sq_flow.specs.declared.wires.Arc.{Arc}
 use Rattle.sq_flow.specs.declared.wires.Wires.{Wires}
-use Rattle.sq_flow.specs.Wiring.{numbers_in, rows_in, arcs_read, arcs_from, followers_of, Climbs, from_of, arc_port, to_of, arc_place, times_in}
+use Rattle.sq_flow.specs.Wiring.{numbers_in, rows_in, arcs_read, arcs_from, followers_of, Climbs, from_of, arc_port, to_of, arc_place, times_in, IsShaped}
 use Rattle.sq_core.specs.declared.join.Feed.{Feed}
 use Rattle.sq_words.specs.Lists.{contains_number}
 
@@ -47,6 +47,13 @@ pub record IsActorOrder (ops : ℕ) (feeds : List (Vec Feed Global)) (order : Li
   pub listed : (actor : ℕ) → known_by ops order actor ≡ true → actor < ops + 1
   pub ordered : (actor : ℕ) → actor < ops → known_by ops order actor ≡ true
 
+-- a table that can be joined, and an order of its operators
+pub record CanJoin (drops outputs : ℕ) (table : List (Vec Feed Global)) (list : List ℕ) : Type 0 where
+  pub feeds : AreFeeds outputs table
+  pub sheds : drops ≤ outputs
+  pub shown : outputs ≤ length table
+  pub order : IsActorOrder (length table) table list
+
 -- an arc is of a feed
 abbrev pub IsOf : Option Arc → Option Feed → Type 0
 IsOf None f = ⊥
@@ -59,17 +66,39 @@ pub record IsJoined (feeds : List (Vec Feed Global)) (wires : Wires) : Type 0 wh
   pub fed : (actor port arc : ℕ) → slice_get (arcs_read wires actor) port ≡ Some arc
       → IsOf (slice_get wires.arcs.items arc) (slice_get (feeds_of feeds actor) port)
 
--- a number is added at a port of an actor
-abbrev pub AddsIn : ℕ → ℕ → ℕ → List (Vec (Vec ℕ Global) Global) → List (Vec (Vec ℕ Global) Global) → Type 0
-AddsIn to place at was is = (actor port : ℕ)
-    → numbers_in (slice_get (rows_in (slice_get is actor)) port)
-    ≡ (if actor == to then (if port == place then numbers_in (slice_get (rows_in (slice_get was actor)) port) ++ at ∷ []
-    else numbers_in (slice_get (rows_in (slice_get was actor)) port))
-    else numbers_in (slice_get (rows_in (slice_get was actor)) port))
+-- wires that join the operators of a table, in this order, the drops and the outputs being those from these numbers on
+pub record JoinsAll (drops outputs : ℕ) (table : List (Vec Feed Global)) (list : Vec ℕ Global) (wires : Wires) : Type 0 where
+  pub shaped : IsShaped wires (length table)
+  pub joined : IsJoined table wires
+  pub sheds : wires.sheds ≡ drops
+  pub shown : wires.shown ≡ outputs
+  pub order : wires.order ≡ list
+
+-- a number is added to a row
+abbrev pub AddsTo : ℕ → ℕ → List (Vec ℕ Global) → List (Vec ℕ Global) → Type 0
+AddsTo row at was is = (r : ℕ) → numbers_in (slice_get is r) ≡ (if r == row then numbers_in (slice_get was r) ++ at ∷ [] else numbers_in (slice_get was r))
+
+-- and there are as many rows as before
+pub record AddsAt (row at : ℕ) (was is : List (Vec ℕ Global)) : Type 0 where
+  pub len : length is ≡ length was
+  pub added : AddsTo row at was is
+
+-- a number is added at a port of an actor, and there are as many actors as before
+pub record AddsIn (to place at : ℕ) (was is : List (Vec (Vec ℕ Global) Global)) : Type 0 where
+  pub len : length is ≡ length was
+  pub added : (actor port : ℕ) → numbers_in (slice_get (rows_in (slice_get is actor)) port)
+      ≡ (if actor == to then (if port == place then numbers_in (slice_get (rows_in (slice_get was actor)) port) ++ at ∷ []
+      else numbers_in (slice_get (rows_in (slice_get was actor)) port))
+      else numbers_in (slice_get (rows_in (slice_get was actor)) port))
 
 -- a number behind these, where it isn't among them
 abbrev pub once_more : ℕ → List ℕ → List ℕ
 once_more x xs = if contains_number xs x then xs else xs ++ x ∷ []
+
+-- an actor has this follower, once, and there are as many actors as before
+pub record HasFollower (actor follower : ℕ) (was is : List (Vec ℕ Global)) : Type 0 where
+  pub len : length is ≡ length was
+  pub added : (r : ℕ) → numbers_in (slice_get is r) ≡ (if r == actor then once_more follower (numbers_in (slice_get was r)) else numbers_in (slice_get was r))
 
 -- what no arc changes
 pub record Fixed (was is : Wires) : Type 0 where
@@ -81,13 +110,10 @@ pub record Fixed (was is : Wires) : Type 0 where
 -- an arc is added
 pub record AddsArc (arc : Arc) (was is : Wires) : Type 0 where
   pub arcs : is.arcs.items ≡ was.arcs.items ++ arc ∷ []
-  pub inputs_len : length is.inputs.items ≡ length was.inputs.items
-  pub readers_len : length is.readers.items ≡ length was.readers.items
   pub fixed : Fixed was is
-  pub inputs : (actor : ℕ) → arcs_read is actor ≡ (if actor == arc.to then arcs_read was actor ++ length was.arcs.items ∷ [] else arcs_read was actor)
+  pub inputs : AddsAt arc.to (length was.arcs.items) was.inputs.items is.inputs.items
   pub readers : AddsIn arc.from arc.port (length was.arcs.items) was.readers.items is.readers.items
-  pub followers_len : length is.followers.items ≡ length was.followers.items
-  pub followers : (actor : ℕ) → followers_of is actor ≡ (if actor == arc.from then once_more arc.to (followers_of was actor) else followers_of was actor)
+  pub followers : HasFollower arc.from arc.to was.followers.items is.followers.items
 
 -- the operators before this one are joined, and of this one so many ports
 pub record IsJoining (shown : ℕ) (feeds : List (Vec Feed Global)) (at place : ℕ) (wires : Wires) : Type 0 where

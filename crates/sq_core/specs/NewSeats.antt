@@ -1,12 +1,12 @@
 -- The seats of a network: a new actor for each box, drop and output.
-use Rattle.std.specs.Prelude.{◌≡◌, ℕ, true, List, Some, slice_get}
+use Rattle.std.specs.Prelude.{◌≡◌, ℕ, true, List, length, Some, slice_get}
 use Rattle.sq_oper.specs.declared.tally.Tally.{Tally}
-use Rattle.sq_oper.specs.declared.tally.Moment.TheVariants.{Start}
+use Rattle.sq_oper.specs.declared.tally.Position.TheVariants.{Start}
 use Rattle.sq_net.specs.declared.Network.{Network}
 use Rattle.sq_actor.specs.declared.actor.Actor as operator
 use Rattle.sq_flow.specs.declared.seats.Seat.{Seat}
 use Rattle.sq_flow.specs.Seats.{unfed}
-use Rattle.sq_start.specs.Numbers.{actor_at}
+use Rattle.sq_start.specs.Numbers.{actor_at, ops_of}
 use Rattle.sq_start.specs.NewOperators.{IsStarted}
 
 -- nothing was fed
@@ -21,3 +21,8 @@ pub record IsSeated (n : Network) (number actor : ℕ) (seat : Seat operator.Act
 
 abbrev pub AllSeated : Network → ℕ → List (Seat operator.Actor) → Type 0
 AllSeated n number seats = (actor : ℕ) (seat : Seat operator.Actor) → slice_get seats actor ≡ Some seat → IsSeated n number actor seat
+
+-- a seat for each operator of a network
+pub record AreNewSeats (n : Network) (number : ℕ) (seats : List (Seat operator.Actor)) : Type 0 where
+  pub count : length seats ≡ ops_of n
+  pub seated : AllSeated n number seats

@@ -1,14 +1,20 @@
 -- The engine of a network, and what a run of it shows.
-use Rattle.std.specs.Prelude.{◌≡◌, ℕ, ◌+◌, ◌^◌, ◌≤◌, ◌<◌, Bool, List, length, Option, Some, None, slice_get}
+use Rattle.std.specs.Prelude.{◌≡◌, ℕ, ◌+◌, ◌^◌, ◌≤◌, ◌<◌, Bool, true, false, List, [], ◌∷◌, length, Option, Some, None, slice_get}
+use Rattle.std.specs.List.{AllByRecursion}
 use Rattle.sq_words.specs.Lists.{IsPrefixOf}
 use Rattle.sq_value.specs.declared.Tuple.{Tuple}
+use Rattle.sq_value.specs.Values.{IsStream}
 use Rattle.sq_outside.specs.Disks.{Pages}
+use Rattle.sq_item.specs.declared.Item.{Item}
 use Rattle.sq_graph.specs.Wires.{input_arcs_of}
 use Rattle.sq_oper.specs.declared.outs.Event.{Event}
-use Rattle.sq_oper.specs.Streams.{tuples_in}
+use Rattle.sq_oper.specs.Streams.{IsSoundTuple, tuples_in}
+use Rattle.sq_net.specs.declared.Network.{Network}
 use Rattle.sq_net.specs.SoundNetworks.{IsSound}
 use Rattle.sq_place.specs.declared.DropPoint.{DropPoint}
 use Rattle.sq_points.specs.Points.{points_of}
+use Rattle.sq_points.specs.Limits.{KeepsDropLimits}
+use Rattle.sq_model.specs.FittingStreams.{SourcesFit}
 use Rattle.sq_model.specs.FullCounts.{late_of}
 use Rattle.sq_model.specs.Shedding.{Replay, answer_of}
 use Rattle.sq_model.specs.KeptTuples.{fed_of, kept_of, work_of, turns_of}
@@ -16,15 +22,19 @@ use Rattle.sq_model.specs.PlanLines.{plans_shown}
 use Rattle.sq_actor.specs.declared.actor.Actor.{Actor}
 use Rattle.sq_actor.specs.Lateness.{late_by_actor}
 use Rattle.sq_pool.specs.Trust.{Tells}
-use Rattle.sq_queue.specs.Faces.{Together}
+use Rattle.sq_queue.specs.Faces.{Together, frames}
+use Rattle.sq_flow.specs.declared.flow.Flow.{Flow}
+use Rattle.sq_flow.specs.declared.engine.State.{State}
+use Rattle.sq_flow.specs.declared.engine.State.TheVariants.{Running, Done, Failed}
 use Rattle.sq_flow.specs.declared.seats.Seat.{Seat}
 use Rattle.sq_flow.specs.declared.errors.RunErr.{RunErr}
 use Rattle.sq_flow.specs.declared.errors.RunErr.TheVariants.{TooMuch}
 use Rattle.sq_flow.specs.Events.{lines_of, drops_of}
-use Rattle.sq_flow.specs.Seats.{taken_at}
-use Rattle.sq_flow.specs.Flows.{fed_on, items_in, taken_in_all}
-use Rattle.sq_flow.specs.Engines.{IsEngine}
-use Rattle.sq_flow.specs.Plans.{plans_of}
+use Rattle.sq_flow.specs.Seats.{lost_at, taken_at}
+use Rattle.sq_flow.specs.Wiring.{arcs_read}
+use Rattle.sq_flow.specs.Flows.{HoldsItems, decisions_left, fed_at_last, fed_on, items_in, left_on, lines_left, lost_at_last, taken_in_all, work_at_last}
+use Rattle.sq_flow.specs.Engines.{AllDone, IsEngine}
+use Rattle.sq_flow.specs.Plans.{plans_left, plans_of}
 use Rattle.sq_flow.specs.Takes.{NotChanged}
 use Rattle.sq_core.specs.declared.engine.Engine.{Engine}
 use Rattle.sq_core.specs.Meanings.{actors}
@@ -33,12 +43,22 @@ use Rattle.sq_start.specs.Nets.{decisions_of}
 use Rattle.sq_start.specs.Starts.{IsReadReplay}
 use Rattle.sq_core.specs.Answers.{Plans, KeepsAnswers}
 
+-- what an engine holds, which of its actors are ready, in order, and whether a step of it failed
+abbrev pub flow_of : Engine → Flow Actor
+flow_of e = e.engine.flow
+
+abbrev pub ready_of : Engine → List ℕ
+ready_of e = e.engine.ready.list
+
+abbrev pub has_failed : Engine → Bool
+has_failed e = e.engine.failed
+
 -- what each step keeps, over every disk: the network is sound, and the operators are its boxes, its window drops and its outputs
 pub record IsSoundEngine (e : Engine) : Type 0 where
   pub network : IsSound e.network
-  pub boxes : e.engine.flow.wires.sheds ≡ length e.network.boxes
-  pub drops : e.engine.flow.wires.shown ≡ first_output e.network
-  pub operators : length e.engine.flow.seats.items ≡ ops_of e.network
+  pub boxes : (flow_of e).wires.sheds ≡ length e.network.boxes
+  pub drops : (flow_of e).wires.shown ≡ first_output e.network
+  pub operators : length (flow_of e).seats.items ≡ ops_of e.network
   pub engine : IsEngine actors e.engine
 
 -- the engine is at work on a replay that was read. History is what it has shown, begun is what the counter of steps said when
@@ -47,10 +67,44 @@ pub record IsRun (r : Replay) (pages : Option Pages) (engine : Engine) (history 
   pub network : engine.network ≡ r.network
   pub read : IsReadReplay r
   pub sound : IsSoundEngine engine
-  pub together : Together engine.engine.flow.queues pages
-  pub counted : steps ≡ begun + taken_in_all actors engine.engine.flow
-  pub plans : Plans r engine.engine.flow history
-  pub answers : Tells pages → KeepsAnswers r (items_in engine.engine.flow pages) engine.engine.flow history
+  pub together : Together (flow_of engine).queues pages
+  pub counted : steps ≡ begun + taken_in_all actors (flow_of engine)
+  pub plans : Plans r (flow_of engine) history
+  pub answers : Tells pages → KeepsAnswers r (items_in (flow_of engine) pages) (flow_of engine) history
+
+-- what an engine is made of: a sound network within its limits, for each source a stream of no more than a million tuples that fits it,
+-- and two pages at least that may be in memory
+pub record AreReplayParts (n : Network) (sources : List (List Tuple)) (pages : ℕ) : Type 0 where
+  pub sound : IsSound n
+  pub limits : KeepsDropLimits n
+  pub lists : length sources ≡ length n.sources
+  pub streams : AllByRecursion IsStream sources
+  pub tuples : AllByRecursion (AllByRecursion IsSoundTuple) sources
+  pub few : AllByRecursion (λ xs. length xs ≤ 1000000) sources
+  pub fit : SourcesFit n sources
+  pub frames : 2 ≤ pages
+
+-- an engine that has released nothing of a replay yet, whose queues keep so many pages in memory at most: its replay alone is ready
+pub record IsNewEngine (r : Replay) (most : ℕ) (e : Engine) : Type 0 where
+  pub sound : IsSoundEngine e
+  pub run : (pages : Option Pages) (steps : ℕ) → IsRun r pages e [] steps steps
+  pub ready : ready_of e ≡ 0 ∷ []
+  pub frames : frames (flow_of e).queues ≡ most
+
+-- an engine runs as long as an actor isn't finished, and then one is ready; it is done where all are, and has failed where a step did
+pub record IsState (e : Engine) (s : State) : Type 0 where
+  pub runs : s ≡ Running → (0 < length (ready_of e)) × (has_failed e ≡ false)
+  pub done : s ≡ Done → AllDone (flow_of e) × (has_failed e ≡ false)
+  pub when_done : has_failed e ≡ false → AllDone (flow_of e) → s ≡ Done
+  pub failed : s ≡ Failed → has_failed e ≡ true
+  pub when_failed : has_failed e ≡ true → s ≡ Failed
+
+-- it has ended where it is done or has failed, and only there
+pub record EndsWhereDone (e : Engine) (ended : Bool) : Type 0 where
+  pub runs : ended ≡ false → (0 < length (ready_of e)) × (has_failed e ≡ false)
+  pub done : has_failed e ≡ false → ended ≡ true → AllDone (flow_of e)
+  pub when_done : AllDone (flow_of e) → ended ≡ true
+  pub when_failed : has_failed e ≡ true → ended ≡ true
 
 -- what a run has shown so far is a beginning of the answers, the records and the plans, and no more was fed than they take
 pub record ShownSoFar (r : Replay) (history : List Event) (begun steps : ℕ) : Type 0 where
@@ -68,18 +122,36 @@ pub record Stopped (honest : Bool) (r : Replay) (history : List Event) (begun st
 
 -- the tuples that a box was fed at a port, in order
 abbrev pub tuples_fed : Engine → ℕ → ℕ → List Tuple
-tuples_fed engine at port = tuples_in (fed_on engine.engine.flow at port)
+tuples_fed engine at port = tuples_in (fed_on (flow_of engine) at port)
+
+-- wherever an engine holds its items, this holds at the table of levels and of the items that stand on its arcs
+abbrev pub WhereHeld : Engine → ((ℕ → ℕ → ℕ) → (ℕ → List Item) → Type 0) → Type 0
+WhereHeld e P = (pages : Option Pages) (table : ℕ → ℕ → ℕ) → HoldsItems actors table (items_in (flow_of e) pages) (flow_of e) → P table (items_in (flow_of e) pages)
+
+-- nothing is pending at any output, drop or arc, nor any plan, and each operator was fed, and has lost, all that it is fed and loses in all
+pub record NothingLeft (e : Engine) : Type 0 where
+  pub lines : WhereHeld e (λ table items. (output : ℕ) → (flow_of e).wires.shown + output < length (flow_of e).seats.items
+      → lines_left actors table items (flow_of e) output ≡ [])
+  pub drops : WhereHeld e (λ table items. (actor : ℕ) → actor < length (flow_of e).seats.items → decisions_left actors table items (flow_of e) actor ≡ [])
+  pub fed : WhereHeld e (λ table items. (actor : ℕ) → actor < length (flow_of e).seats.items
+      → fed_at_last actors table items (flow_of e) actor ≡ taken_at actors (slice_get (flow_of e).seats.items actor))
+  pub lost : WhereHeld e (λ table items. (actor : ℕ) → actor < length (flow_of e).seats.items
+      → lost_at_last actors table items (flow_of e) actor ≡ lost_at actors (slice_get (flow_of e).seats.items actor) [])
+  pub work : WhereHeld e (λ table items. work_at_last actors table items (flow_of e) ≡ taken_in_all actors (flow_of e))
+  pub arcs : WhereHeld e (λ table items. (actor port arc : ℕ) → actor < length (flow_of e).seats.items
+      → slice_get (arcs_read (flow_of e).wires actor) port ≡ Some arc → left_on actors table items (flow_of e) arc ≡ [])
+  pub plans : plans_left (flow_of e) ≡ []
 
 -- how many tuples a box was fed, and how many of them it has neither given nor holds, where it is a BSort
 abbrev pub fed_at : Engine → ℕ → ℕ
-fed_at engine at = taken_at actors (slice_get engine.engine.flow.seats.items at)
+fed_at engine at = taken_at actors (slice_get (flow_of engine).seats.items at)
 
 abbrev pub late_in : Option (Seat Actor) → ℕ
 late_in None = 0
 late_in (Some seat) = late_by_actor seat.op (actors.taken seat.op)
 
 abbrev pub late_at_seat : Engine → ℕ → ℕ
-late_at_seat engine at = late_in (slice_get engine.engine.flow.seats.items at)
+late_at_seat engine at = late_in (slice_get (flow_of engine).seats.items at)
 
 -- what a run that is done has shown, fed and lost: at each port a box was fed the kept tuples of the arc there
 pub record ShownAll (r : Replay) (engine : Engine) (history : List Event) (begun steps : ℕ) : Type 0 where

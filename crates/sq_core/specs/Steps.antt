@@ -16,7 +16,7 @@ use Rattle.sq_core.specs.declared.engine.Engine.{Engine}
 use Rattle.sq_core.specs.Meanings.{actors}
 use Rattle.sq_core.specs.Runs.{IsRun, IsSoundEngine, Stopped}
 
--- a step that ended Ok: what was shown, and then what is left, stays the same, and each event is one of the network
+-- a step that ended Ok: what was shown, and then what is pending, stays the same, and each event is one of the network
 pub record RunsOn (pick : Pick) (before after : Stage Actor) (engine engine' : Engine) (p : Progress) : Type 0 where
   pub step : EngineOk actors pick before after engine.engine engine'.engine p
   pub sound : IsSoundEngine engine'

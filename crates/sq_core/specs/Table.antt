@@ -1,6 +1,7 @@
 -- What the boxes, drops and outputs of a network read, and an order of them.
 use Rattle.std.specs.Prelude.{◌≡◌, ℕ, zero, suc, ◌+◌, ◌<◌, ◌≤◌, ◌==◌, if◌then◌else◌, Bool, true, false, List, [], ◌∷◌, map, length, Option, Some}
 use Rattle.std.specs.Prelude.{None, is_some, slice_get}
+use Rattle.std.specs.List.{All}
 use Rattle.sq_value.specs.declared.Kind.{Kind}
 use Rattle.sq_value.specs.Values.{Columns, kinds_of}
 use Rattle.sq_words.specs.Lists.{numbers_to}
@@ -9,13 +10,16 @@ use Rattle.sq_graph.specs.Order.{order_of}
 use Rattle.sq_place.specs.declared.DropPoint.{DropPoint}
 use Rattle.sq_place.specs.Places.{stream_on, arc_numbers, box_of}
 use Rattle.sq_net.specs.declared.Network.{Network}
+use Rattle.sq_net.specs.SoundNetworks.{IsSound}
 use Rattle.sq_net.specs.Streams.{columns_of_stream}
 use Rattle.sq_points.specs.Points.{points_of}
-use Rattle.sq_below.specs.Actors.{Actor, Sources, Box, Shedder, Shower, giver, arc_from}
+use Rattle.sq_model.specs.GivenLevels.{IsAt}
+use Rattle.sq_below.specs.Actors.{Actor, Sources, Box, WindowDrop, OutputGate, giver, arc_from}
 use Rattle.sq_start.specs.Numbers.{first_output, ops_of, number_of, actor_at, place_stream}
 use Rattle.sq_flow.specs.declared.wires.Wires.{Wires}
-use Rattle.sq_flow.specs.Wiring.{arcs_read, arc_wired}
+use Rattle.sq_flow.specs.Wiring.{arcs_read, arc_wired, IsShaped}
 use Rattle.sq_core.specs.declared.join.Feed.{Feed}
+use Rattle.sq_core.specs.declared.network.Topology.{Topology}
 use Rattle.sq_core.specs.Joining.{IsOf}
 use Rattle.sq_points.specs.Above.{drop_above_arc}
 
@@ -28,11 +32,20 @@ kinds_on (Some cs) = kinds_of cs
 abbrev pub streams_on : Network → List ℕ
 streams_on n = map (stream_on n.wires) (arc_numbers n.wires)
 
+-- a sound network with its drop points, the streams of its arcs, and the number of its replay
+pub record IsTopology (it : Topology) : Type 0 where
+  pub sound : IsSound it.n.now
+  pub points : it.points.now ≡ points_of it.n.now
+  pub places : All (λ p. IsAt it.n.now p.at) it.points.now
+  pub streams : it.streams.now ≡ streams_on it.n.now
+  pub replay : it.replay ≡ ops_of it.n.now
+
 -- the feed that takes a stream from a port of an actor
 abbrev pub feed_from : Network → ℕ → Bool → Actor × ℕ → Feed
 feed_from n stream marked x = record { from = number_of n x.0; port = x.1; kinds = kinds_on (columns_of_stream n stream); marked = marked }
 
--- the feed of an arc: it comes from the drop that stands on it, or else from what gives its stream; below a drop marks come on it
+-- the feed of an arc: it comes from the drop that stands on it, or else from what gives its stream; below a drop its
+-- marks come on it
 abbrev pub arc_feed : Network → ℕ → Feed
 arc_feed n a = feed_from n (stream_on n.wires a) (is_some (drop_above_arc n a)) (arc_from n a)
 
@@ -48,8 +61,8 @@ point_row n (Some p) = place_feed n p ∷ []
 abbrev pub feeds_row : Network → Actor → List Feed
 feeds_row n Sources = []
 feeds_row n (Box b) = map (arc_feed n) (input_arcs_of n.wires b)
-feeds_row n (Shedder w) = point_row n (slice_get (points_of n) w)
-feeds_row n (Shower o) = arc_feed n (output_arc_at n.wires o) ∷ []
+feeds_row n (WindowDrop w) = point_row n (slice_get (points_of n) w)
+feeds_row n (OutputGate o) = arc_feed n (output_arc_at n.wires o) ∷ []
 
 -- what each operator reads
 abbrev pub feed_table : Network → List (List Feed)
@@ -97,3 +110,10 @@ pub record IsTabled (n : Network) (w : Wires) : Type 0 where
   pub each : (actor port : ℕ) (f : Feed) → actor < ops_of n → slice_get (feeds_row n (actor_at n actor)) port ≡ Some f
       → IsOf (arc_wired w (slice_get (arcs_read w actor) port)) (Some f)
   pub no_more : (actor : ℕ) → ops_of n ≤ actor → arcs_read w actor ≡ []
+
+-- the wires of a network: its boxes, behind them its drops, and then its outputs, read what the network says
+pub record AreWires (n : Network) (w : Wires) : Type 0 where
+  pub shaped : IsShaped w (ops_of n)
+  pub measured : IsTabled n w
+  pub sheds : w.sheds ≡ length n.boxes
+  pub shown : w.shown ≡ first_output n

@@ -1,15 +1,15 @@
 //! Wires from a table of what each operator reads.
 
-ghost use Rattle.std.specs.Prelude.{◌≡◌, ◌<◌, ◌≤◌, ◌^◌, ◌-◌, ◌+◌, ◌==◌, ℕ, [], ◌∷◌, ◌++◌, length, slice_get, IfOk, OnOk, if◌then◌else◌};
-ghost use Rattle.sq_flow.specs.Wiring.{numbers_in, rows_in, IsShaped};
-ghost use Rattle.sq_core.specs.Joining.{AddsArc, AreFeeds, IsActorOrder, IsJoining, IsJoined, AddsIn, Fixed, once_more};
+ghost use Rattle.std.specs.Prelude.{◌≡◌, ◌<◌, ◌≤◌, ◌^◌, ◌+◌, ℕ, [], length, slice_get, IfOk, OnOk};
+ghost use Rattle.sq_flow.specs.Wiring.{numbers_in, rows_in};
+ghost use Rattle.sq_core.specs.Joining.{AddsArc, AddsAt, AddsIn, AddsTo, AreFeeds, CanJoin, Fixed, HasFollower, IsJoining, JoinsAll};
 
 use sq_flow::{Arc, Wires};
 use sq_value::{Kind, ListOf};
 use std::alloc::{AllocError, Global};
 
 /// What an operator reads at a port: which actor gives it at which port, of which kinds the values of its tuples are, and whether
-/// marks come on it. The actors are the operators, and behind them the replay.
+/// marks of a window drop come on it. The actors are the operators, and behind them the replay.
 #[derive(Drop)]
 pub(crate) struct Feed {
     pub from: u32,
@@ -30,9 +30,7 @@ pub(crate) fn copy_kinds(alloc: Global, kinds: &[Kind]) -> Result<ListOf<Kind>, 
 /// Adds a number to a row.
 fn add_at(rows: &mut Vec<Vec<u32>>, row: u32, at: u32) -> Result<(), AllocError>
     requires { row < length rows.old.items }
-    ensures len { OnOk result (length rows.new.items ≡ length rows.old.items) }
-    ensures added { OnOk result ((r : ℕ) → numbers_in (slice_get rows.new.items r)
-        ≡ (if r == row then numbers_in (slice_get rows.old.items r) ++ at ∷ [] else numbers_in (slice_get rows.old.items r))) }
+    ensures { OnOk result (AddsAt row at rows.old.items rows.new.items) }
 {
     rows[row as usize].push(at)?;
     Ok(())
@@ -52,8 +50,7 @@ fn grow(alloc: Global, rows: &mut Vec<Vec<u32>>, row: u32) -> Result<(), AllocEr
 
 /// Adds a number to a row, which needn't be there yet.
 fn add_row(alloc: Global, rows: &mut Vec<Vec<u32>>, row: u32, at: u32) -> Result<(), AllocError>
-    ensures added { OnOk result ((r : ℕ) → numbers_in (slice_get rows.new.items r)
-        ≡ (if r == row then numbers_in (slice_get rows.old.items r) ++ at ∷ [] else numbers_in (slice_get rows.old.items r))) }
+    ensures { OnOk result (AddsTo row at rows.old.items rows.new.items) }
 {
     grow(alloc, rows, row)?;
     add_at(rows, row, at)
@@ -68,8 +65,7 @@ fn add_in(
     at: u32,
 ) -> Result<(), AllocError>
     requires { actor < length readers.old.items }
-    ensures len { OnOk result (length readers.new.items ≡ length readers.old.items) }
-    ensures added { OnOk result (AddsIn actor port at readers.old.items readers.new.items) }
+    ensures { OnOk result (AddsIn actor port at readers.old.items readers.new.items) }
 {
     add_row(alloc, &mut readers[actor as usize], port, at)
 }
@@ -77,9 +73,7 @@ fn add_in(
 /// Notes that an operator reads from an actor.
 fn add_follower(followers: &mut Vec<Vec<u32>>, actor: u32, follower: u32) -> Result<(), AllocError>
     requires { actor < length followers.old.items }
-    ensures len { OnOk result (length followers.new.items ≡ length followers.old.items) }
-    ensures added { OnOk result ((r : ℕ) → numbers_in (slice_get followers.new.items r)
-        ≡ (if r == actor then once_more follower (numbers_in (slice_get followers.old.items r)) else numbers_in (slice_get followers.old.items r))) }
+    ensures { OnOk result (HasFollower actor follower followers.old.items followers.new.items) }
 {
     if followers[actor as usize].contains(&follower) {
         return Ok(());
@@ -170,15 +164,8 @@ pub(crate) fn wires_of(
     feeds: &[Vec<Feed>],
     order: Vec<u32>,
 ) -> Result<Wires, AllocError>
-    requires feeds { AreFeeds shown feeds.now }
-    requires sheds { sheds ≤ shown }
-    requires shown { shown ≤ length feeds.now }
-    requires order { IsActorOrder (length feeds.now) feeds.now order.items }
-    ensures shaped { IfOk result (λ w. IsShaped w (length feeds.now)) }
-    ensures joined { IfOk result (λ w. IsJoined feeds.now w) }
-    ensures sheds { IfOk result (λ w. w.sheds ≡ sheds) }
-    ensures shown { IfOk result (λ w. w.shown ≡ shown) }
-    ensures order { IfOk result (λ w. w.order ≡ order) }
+    requires { CanJoin sheds shown feeds.now order.items }
+    ensures { IfOk result (JoinsAll sheds shown feeds.now order) }
 {
     let ops = feeds.len() as u32;
     let mut wires = Wires {

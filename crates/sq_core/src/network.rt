@@ -10,10 +10,9 @@ ghost use Rattle.sq_net.specs.Streams.{columns_of_stream};
 ghost use Rattle.sq_points.specs.Points.{points_of};
 ghost use Rattle.sq_model.specs.GivenLevels.{IsAt};
 ghost use Rattle.sq_below.specs.Actors.{Box, giver};
-ghost use Rattle.sq_start.specs.Numbers.{first_output, ops_of, actor_at, place_stream};
-ghost use Rattle.sq_flow.specs.Wiring.{IsShaped};
-ghost use Rattle.sq_core.specs.Table.{kinds_on, streams_on, arc_feed, place_feed, feed_from, feeds_row, feed_table, same_box, drops_behind, turned};
-ghost use Rattle.sq_core.specs.Table.{with_outputs, actors_of, IsTabled};
+ghost use Rattle.sq_start.specs.Numbers.{ops_of, actor_at, place_stream};
+ghost use Rattle.sq_core.specs.Table.{AreWires, IsTopology, actors_of, arc_feed, drops_behind, feed_from, feed_table, feeds_row};
+ghost use Rattle.sq_core.specs.Table.{kinds_on, place_feed, same_box, turned, with_outputs};
 
 use crate::join::{Feed, copy_kinds, wires_of};
 use crate::points::{drop_on, is_below};
@@ -36,14 +35,23 @@ fn arc_streams(alloc: Global, n: &Network) -> Result<Vec<u32>, AllocError>
     Ok(streams)
 }
 
+/// What the wires of a network are made from: the network, its drop points, the streams of its arcs, and the replay's number.
+#[derive(Drop)]
+struct Topology<'a> {
+    n: &'a Network,
+    points: &'a [DropPoint],
+    streams: &'a [u32],
+    replay: u32,
+}
+
 #[tactic(auto, using(crate::proofs::PointLemmas::streams_many, crate::proofs::PointLemmas::stream_at))]
-fn stream_on(n: &Network, streams: &[u32], arc: u32) -> u32
-    requires streams { streams.now ≡ streams_on n.now }
-    requires there { arc < length (arcs_of n.now.wires) }
-    ensures { result ≡ stream_on n.now.wires arc }
+fn stream_on(it: &Topology, arc: u32) -> u32
+    requires topology { IsTopology it.now }
+    requires there { arc < length (arcs_of it.now.n.now.wires) }
+    ensures { result ≡ stream_on it.now.n.now.wires arc }
 {
-    let _wires = &n.wires;
-    streams[arc as usize]
+    let _wires = &it.n.wires;
+    it.streams[arc as usize]
 }
 
 /// The kinds of the values of a stream's tuples.
@@ -57,22 +65,15 @@ fn kinds_on(alloc: Global, n: &Network, stream: u32) -> Result<ListOf<Kind>, All
 
 /// The feed that takes a stream from what gives it.
 #[tactic(auto, using(crate::proofs::TableLemmas::boxes_low))]
-fn given_feed(
-    alloc: Global,
-    n: &Network,
-    replay: u32,
-    stream: u32,
-    marked: bool,
-) -> Result<Feed, AllocError>
-    requires sound { IsSound n.now }
-    requires there { is_there (producer_of n.now.wires stream) ≡ true }
-    requires replay { replay ≡ ops_of n.now }
-    ensures { IfOk result (λ feed. feed ≡ feed_from n.now stream marked (giver (producer_of n.now.wires stream))) }
+fn given_feed(alloc: Global, it: &Topology, stream: u32, marked: bool) -> Result<Feed, AllocError>
+    requires topology { IsTopology it.now }
+    requires there { is_there (producer_of it.now.n.now.wires stream) ≡ true }
+    ensures { IfOk result (λ feed. feed ≡ feed_from it.now.n.now stream marked (giver (producer_of it.now.n.now.wires stream))) }
 {
-    let kinds = kinds_on(alloc, n, stream)?;
-    match given_by(&n.wires, stream) {
+    let kinds = kinds_on(alloc, it.n, stream)?;
+    match given_by(&it.n.wires, stream) {
         Some(Producer::Source { source }) => Ok(Feed {
-            from: replay,
+            from: it.replay,
             port: source,
             kinds,
             marked,
@@ -89,66 +90,48 @@ fn given_feed(
 
 /// The feed of an arc.
 #[tactic(auto, using(crate::proofs::TableLemmas::boxes_low, crate::proofs::TableLemmas::points_low, crate::proofs::TableLemmas::arc_stream_there))]
-fn arc_feed(
-    alloc: Global,
-    n: &Network,
-    points: &[DropPoint],
-    streams: &[u32],
-    replay: u32,
-    arc: u32,
-) -> Result<Feed, AllocError>
-    requires sound { IsSound n.now }
-    requires points { points.now ≡ points_of n.now }
-    requires streams { streams.now ≡ streams_on n.now }
-    requires replay { replay ≡ ops_of n.now }
-    requires there { arc < length (arcs_of n.now.wires) }
-    ensures { IfOk result (λ feed. feed ≡ arc_feed n.now arc) }
+fn arc_feed(alloc: Global, it: &Topology, arc: u32) -> Result<Feed, AllocError>
+    requires topology { IsTopology it.now }
+    requires there { arc < length (arcs_of it.now.n.now.wires) }
+    ensures { IfOk result (λ feed. feed ≡ arc_feed it.now.n.now arc) }
 {
-    let stream = stream_on(n, streams, arc);
-    let marked = is_below(points, arc);
-    match drop_on(n, points, stream, arc) {
+    let stream = stream_on(it, arc);
+    let marked = is_below(it.points, arc);
+    match drop_on(it.n, it.points, stream, arc) {
         Some(drop) => {
-            let kinds = kinds_on(alloc, n, stream)?;
+            let kinds = kinds_on(alloc, it.n, stream)?;
             Ok(Feed {
-                from: n.boxes.as_slice().len() as u32 + drop,
+                from: it.n.boxes.as_slice().len() as u32 + drop,
                 port: 0,
                 kinds,
                 marked,
             })
         }
-        None => given_feed(alloc, n, replay, stream, marked),
+        None => given_feed(alloc, it, stream, marked),
     }
 }
 
 /// The stream at a place.
-fn place_stream(n: &Network, streams: &[u32], at: DropAt) -> u32
-    requires streams { streams.now ≡ streams_on n.now }
-    requires there { IsAt n.now at }
-    ensures { result ≡ place_stream n.now at }
+fn place_stream(it: &Topology, at: DropAt) -> u32
+    requires topology { IsTopology it.now }
+    requires there { IsAt it.now.n.now at }
+    ensures { result ≡ place_stream it.now.n.now at }
 {
     match at {
         DropAt::Stream(stream) => stream,
-        DropAt::Arc(arc) => stream_on(n, streams, arc),
+        DropAt::Arc(arc) => stream_on(it, arc),
     }
 }
 
 /// The feed of a drop.
 #[tactic(auto, using(crate::proofs::TableLemmas::place_stream_there))]
-fn place_feed(
-    alloc: Global,
-    n: &Network,
-    streams: &[u32],
-    replay: u32,
-    point: &DropPoint,
-) -> Result<Feed, AllocError>
-    requires sound { IsSound n.now }
-    requires streams { streams.now ≡ streams_on n.now }
-    requires replay { replay ≡ ops_of n.now }
-    requires there { IsAt n.now point.now.at }
-    ensures { IfOk result (λ feed. feed ≡ place_feed n.now point.now) }
+fn place_feed(alloc: Global, it: &Topology, point: &DropPoint) -> Result<Feed, AllocError>
+    requires topology { IsTopology it.now }
+    requires there { IsAt it.now.n.now point.now.at }
+    ensures { IfOk result (λ feed. feed ≡ place_feed it.now.n.now point.now) }
 {
-    let stream = place_stream(n, streams, point.at);
-    given_feed(alloc, n, replay, stream, false)
+    let stream = place_stream(it, point.at);
+    given_feed(alloc, it, stream, false)
 }
 
 /// The arcs that a box takes.
@@ -169,26 +152,16 @@ fn input_arcs(alloc: Global, n: &Network, at: u32) -> Result<Vec<u32>, AllocErro
 }
 
 /// What a box reads.
-fn box_row(
-    alloc: Global,
-    n: &Network,
-    points: &[DropPoint],
-    streams: &[u32],
-    replay: u32,
-    at: u32,
-) -> Result<Vec<Feed>, AllocError>
-    requires sound { IsSound n.now }
-    requires points { points.now ≡ points_of n.now }
-    requires streams { streams.now ≡ streams_on n.now }
-    requires replay { replay ≡ ops_of n.now }
-    requires there { at < length n.now.wires.boxes }
-    ensures { IfOk result (λ v. v.items ≡ feeds_row n.now (Box at)) }
+fn box_row(alloc: Global, it: &Topology, at: u32) -> Result<Vec<Feed>, AllocError>
+    requires topology { IsTopology it.now }
+    requires there { at < length it.now.n.now.wires.boxes }
+    ensures { IfOk result (λ v. v.items ≡ feeds_row it.now.n.now (Box at)) }
 {
-    let arcs = input_arcs(alloc, n, at)?;
+    let arcs = input_arcs(alloc, it.n, at)?;
     let mut row = Vec::new(alloc);
     for index in 0..arcs.len() {
         let arc = arcs[index];
-        let feed = arc_feed(alloc, n, points, streams, replay, arc)?;
+        let feed = arc_feed(alloc, it, arc)?;
         row.push(feed)?;
     }
     Ok(row)
@@ -202,55 +175,34 @@ fn one_feed(alloc: Global, feed: Feed) -> Result<Vec<Feed>, AllocError>
 
 /// What an operator reads.
 #[tactic(auto, using(crate::proofs::TableLemmas::boxes_low, crate::proofs::TableLemmas::points_low))]
-fn row_at(
-    alloc: Global,
-    n: &Network,
-    points: &[DropPoint],
-    streams: &[u32],
-    replay: u32,
-    actor: u32,
-) -> Result<Vec<Feed>, AllocError>
-    requires sound { IsSound n.now }
-    requires points { points.now ≡ points_of n.now }
-    requires places { All (λ p. IsAt n.now p.at) points.now }
-    requires streams { streams.now ≡ streams_on n.now }
-    requires replay { replay ≡ ops_of n.now }
-    requires there { actor < ops_of n.now }
-    ensures { IfOk result (λ v. v.items ≡ feeds_row n.now (actor_at n.now actor)) }
+fn row_at(alloc: Global, it: &Topology, actor: u32) -> Result<Vec<Feed>, AllocError>
+    requires topology { IsTopology it.now }
+    requires there { actor < ops_of it.now.n.now }
+    ensures { IfOk result (λ v. v.items ≡ feeds_row it.now.n.now (actor_at it.now.n.now actor)) }
 {
-    let boxes = n.boxes.as_slice().len() as u32;
-    let first = boxes + points.len() as u32;
+    let boxes = it.n.boxes.as_slice().len() as u32;
+    let first = boxes + it.points.len() as u32;
     if actor < boxes {
-        return box_row(alloc, n, points, streams, replay, actor);
+        return box_row(alloc, it, actor);
     }
     if actor < first {
-        let point = &points[(actor - boxes) as usize];
-        let given = place_feed(alloc, n, streams, replay, point)?;
+        let point = &it.points[(actor - boxes) as usize];
+        let given = place_feed(alloc, it, point)?;
         return one_feed(alloc, given);
     }
-    let arc = output_arc(&n.wires, actor - first);
-    let feed = arc_feed(alloc, n, points, streams, replay, arc)?;
+    let arc = output_arc(&it.n.wires, actor - first);
+    let feed = arc_feed(alloc, it, arc)?;
     one_feed(alloc, feed)
 }
 
 /// What each operator reads.
-fn feed_table(
-    alloc: Global,
-    n: &Network,
-    points: &[DropPoint],
-    streams: &[u32],
-    replay: u32,
-) -> Result<Vec<Vec<Feed>>, AllocError>
-    requires sound { IsSound n.now }
-    requires points { points.now ≡ points_of n.now }
-    requires places { All (λ p. IsAt n.now p.at) points.now }
-    requires streams { streams.now ≡ streams_on n.now }
-    requires replay { replay ≡ ops_of n.now }
-    ensures { IfOk result (λ v. map (λ f. f.items) v.items ≡ feed_table n.now) }
+fn feed_table(alloc: Global, it: &Topology) -> Result<Vec<Vec<Feed>>, AllocError>
+    requires { IsTopology it.now }
+    ensures { IfOk result (λ v. map (λ f. f.items) v.items ≡ feed_table it.now.n.now) }
 {
     let mut table = Vec::new(alloc);
-    for actor in 0..replay {
-        table.push(row_at(alloc, n, points, streams, replay, actor)?)?;
+    for actor in 0..it.replay {
+        table.push(row_at(alloc, it, actor)?)?;
     }
     Ok(table)
 }
@@ -280,23 +232,14 @@ fn same_box(one: Option<u32>, other: Option<u32>) -> bool
 
 /// Puts the drops whose stream a box gives, or a source, in front of earlier operators.
 #[tactic(auto, using(crate::proofs::TableLemmas::boxes_low, crate::proofs::TableLemmas::points_low))]
-fn add_drops(
-    n: &Network,
-    points: &[DropPoint],
-    streams: &[u32],
-    giver: Option<u32>,
-    all: &mut Vec<u32>,
-) -> Result<(), AllocError>
-    requires sound { IsSound n.now }
-    requires points { points.now ≡ points_of n.now }
-    requires places { All (λ p. IsAt n.now p.at) points.now }
-    requires streams { streams.now ≡ streams_on n.now }
-    ensures { OnOk result (all.new.items ≡ turned all.old.items (drops_behind n.now giver)) }
+fn add_drops(it: &Topology, giver: Option<u32>, all: &mut Vec<u32>) -> Result<(), AllocError>
+    requires { IsTopology it.now }
+    ensures { OnOk result (all.new.items ≡ turned all.old.items (drops_behind it.now.n.now giver)) }
 {
-    let boxes = n.boxes.as_slice().len() as u32;
-    for number in 0..points.len() {
-        let stream = place_stream(n, streams, points[number].at);
-        if same_box(box_giving(n, stream), giver) {
+    let boxes = it.n.boxes.as_slice().len() as u32;
+    for number in 0..it.points.len() {
+        let stream = place_stream(it, it.points[number].at);
+        if same_box(box_giving(it.n, stream), giver) {
             all.insert(0, boxes + number as u32)?;
         }
     }
@@ -316,28 +259,20 @@ fn add_outputs(first: u32, outputs: u32, all: &mut Vec<u32>) -> Result<(), Alloc
 
 /// The operators in an order in which each stands behind those that it reads, the last first.
 #[tactic(auto, using(crate::proofs::TableLemmas::boxes_low, crate::proofs::TableLemmas::points_low, crate::proofs::TableLemmas::outputs_low))]
-fn actors_of(
-    alloc: Global,
-    n: &Network,
-    points: &[DropPoint],
-    streams: &[u32],
-) -> Result<Vec<u32>, AllocError>
-    requires sound { IsSound n.now }
-    requires points { points.now ≡ points_of n.now }
-    requires places { All (λ p. IsAt n.now p.at) points.now }
-    requires streams { streams.now ≡ streams_on n.now }
-    ensures { IfOk result (λ v. v.items ≡ actors_of n.now) }
+fn actors_of(alloc: Global, it: &Topology) -> Result<Vec<u32>, AllocError>
+    requires { IsTopology it.now }
+    ensures { IfOk result (λ v. v.items ≡ actors_of it.now.n.now) }
 {
-    let boxes = box_order(alloc, &n.wires)?;
+    let boxes = box_order(alloc, &it.n.wires)?;
     let mut all = Vec::new(alloc);
-    add_drops(n, points, streams, None, &mut all)?;
+    add_drops(it, None, &mut all)?;
     for index in 0..boxes.len() {
         let at = boxes[index];
         all.insert(0, at)?;
-        add_drops(n, points, streams, Some(at), &mut all)?;
+        add_drops(it, Some(at), &mut all)?;
     }
-    let first = n.boxes.as_slice().len() as u32 + points.len() as u32;
-    add_outputs(first, n.wires.outputs.as_slice().len() as u32, &mut all)?;
+    let first = it.n.boxes.as_slice().len() as u32 + it.points.len() as u32;
+    add_outputs(first, it.n.wires.outputs.as_slice().len() as u32, &mut all)?;
     Ok(all)
 }
 
@@ -351,16 +286,18 @@ pub(crate) fn network_wires(
     requires sound { IsSound n.now }
     requires points { points.now ≡ points_of n.now }
     requires places { All (λ p. IsAt n.now p.at) points.now }
-    ensures shaped { IfOk result (λ w. IsShaped w (ops_of n.now)) }
-    ensures measured { IfOk result (λ w. IsTabled n.now w) }
-    ensures sheds { IfOk result (λ w. w.sheds ≡ length n.now.boxes) }
-    ensures shown { IfOk result (λ w. w.shown ≡ first_output n.now) }
+    ensures { IfOk result (AreWires n.now) }
 {
     let boxes = n.boxes.as_slice().len() as u32;
     let first = boxes + points.len() as u32;
-    let replay = first + n.wires.outputs.as_slice().len() as u32;
     let streams = arc_streams(alloc, n)?;
-    let table = feed_table(alloc, n, points, &streams, replay)?;
-    let order = actors_of(alloc, n, points, &streams)?;
+    let it = Topology {
+        n,
+        points,
+        streams: &streams,
+        replay: first + n.wires.outputs.as_slice().len() as u32,
+    };
+    let table = feed_table(alloc, &it)?;
+    let order = actors_of(alloc, &it)?;
     wires_of(alloc, boxes, first, &table, order)
 }

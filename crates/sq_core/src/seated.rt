@@ -1,12 +1,11 @@
 //! The actors of a network in their seats.
 
-ghost use Rattle.std.specs.Prelude.{◌≡◌, IfOk, length, map};
+ghost use Rattle.std.specs.Prelude.{◌≡◌, IfOk, map};
 ghost use Rattle.sq_net.specs.SoundNetworks.{IsSound};
 ghost use Rattle.sq_points.specs.Points.{points_of};
 ghost use Rattle.sq_points.specs.Limits.{KeepsDropLimits};
-ghost use Rattle.sq_start.specs.Numbers.{ops_of};
 ghost use Rattle.sq_flow.specs.Seats.{unfed};
-ghost use Rattle.sq_core.specs.NewSeats.{none_fed, AllSeated};
+ghost use Rattle.sq_core.specs.NewSeats.{none_fed, AreNewSeats};
 
 use sq_actor::Actor;
 use sq_flow::{FedItems, Seat};
@@ -41,8 +40,7 @@ pub(crate) fn network_seats(
     requires sound { IsSound n.now }
     requires limits { KeepsDropLimits n.now }
     requires points { points.now ≡ points_of n.now }
-    ensures count { IfOk result (λ v. length v.items ≡ ops_of n.now) }
-    ensures seated { IfOk result (λ v. AllSeated n.now seed v.items) }
+    ensures { IfOk result (λ v. AreNewSeats n.now seed v.items) }
 {
     let actors = network_actors(alloc, n, points, seed)?;
     seats_of(alloc, actors)

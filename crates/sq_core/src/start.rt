@@ -1,21 +1,10 @@
 //! The engine over the operators of a network, to which nothing was fed.
 
-ghost use Rattle.std.specs.Prelude.{◌≡◌, ◌<◌, ◌≤◌, ◌^◌, [], ◌∷◌, IfOk, Option, length, map};
-ghost use Rattle.std.specs.List.{AllByRecursion};
-ghost use Rattle.sq_value.specs.Values.{IsStream};
-ghost use Rattle.sq_oper.specs.Streams.{IsSoundTuple};
-ghost use Rattle.sq_outside.specs.Disks.{Pages};
+ghost use Rattle.std.specs.Prelude.{◌≡◌, IfOk, map};
 ghost use Rattle.sq_net.specs.SoundNetworks.{IsSound};
 ghost use Rattle.sq_points.specs.Points.{points_of};
 ghost use Rattle.sq_points.specs.Limits.{KeepsDropLimits};
-ghost use Rattle.sq_model.specs.FittingStreams.{SourcesFit};
-ghost use Rattle.sq_queue.specs.Faces as faces;
-ghost use Rattle.sq_queue.specs.Faces.{Together};
-ghost use Rattle.sq_flow.specs.Engines.{IsEngine};
-ghost use Rattle.sq_flow.specs.Flows.{items_in, taken_in_all};
-ghost use Rattle.sq_core.specs.Meanings.{actors};
-ghost use Rattle.sq_start.specs.Numbers.{first_output, ops_of};
-ghost use Rattle.sq_core.specs.Answers.{Plans, KeepsAnswers};
+ghost use Rattle.sq_core.specs.Runs.{AreReplayParts, IsNewEngine};
 
 use crate::network::network_wires;
 use crate::seated::network_seats;
@@ -67,27 +56,9 @@ pub(crate) fn network_engine(
     seed: u64,
     frames: u32,
 ) -> Result<Engine<Actor>, AllocError>
-    requires sound { IsSound n.now }
-    requires limits { KeepsDropLimits n.now }
-    requires few { length sources.items < 2 ^ 32 }
-    requires streams { AllByRecursion IsStream (map (λ v. v.items) sources.items) }
-    requires tuples { AllByRecursion (AllByRecursion IsSoundTuple) (map (λ v. v.items) sources.items) }
-    requires few_tuples { AllByRecursion (λ xs. length xs ≤ 1000000) (map (λ v. v.items) sources.items) }
-    requires fit { SourcesFit n.now (map (λ v. v.items) sources.items) }
-    requires frames { 2 ≤ frames }
-    ensures engine { IfOk result (λ e. IsEngine actors e) }
-    ensures boxes { IfOk result (λ e. e.flow.wires.sheds ≡ length n.now.boxes) }
-    ensures drops { IfOk result (λ e. e.flow.wires.shown ≡ first_output n.now) }
-    ensures operators { IfOk result (λ e. length e.flow.seats.items ≡ ops_of n.now) }
-    ensures together { IfOk result (λ e. (pages : Option Pages) → Together e.flow.queues pages) }
-    ensures none_fed { IfOk result (λ e. taken_in_all actors e.flow ≡ 0) }
-    ensures plans { IfOk result (λ e. Plans (record { network = n.now; sources = map (λ v. v.items) sources.items; entries = capacities.now; seed = seed })
-        e.flow []) }
-    ensures answers { IfOk result (λ e. (pages : Option Pages)
-        → KeepsAnswers (record { network = n.now; sources = map (λ v. v.items) sources.items; entries = capacities.now; seed = seed })
-        (items_in e.flow pages) e.flow []) }
-    ensures ready { IfOk result (λ e. e.ready.list ≡ 0 ∷ []) }
-    ensures frames { IfOk result (λ e. faces.frames e.flow.queues ≡ frames) }
+    requires { AreReplayParts n.now (map (λ v. v.items) sources.items) frames }
+    ensures { IfOk result (λ e. IsNewEngine (record { network = n.now; sources = map (λ v. v.items) sources.items; entries = capacities.now; seed = seed }) frames
+        (record { network = n.now; engine = e })) }
 {
     early_drop_is_sound();
     starts_as_replayed();
@@ -97,5 +68,6 @@ pub(crate) fn network_engine(
     let seats = network_seats(alloc, n, &points, seed)?;
     let planner = network_planner(alloc, n, &points, capacities)?;
     let levels = Levels::new(alloc, n.epoch);
-    Engine::new(alloc, wires, seats, sources, planner, levels, frames)
+    let engine = Engine::new(alloc, wires, seats, sources, planner, levels, frames)?;
+    Ok(engine)
 }

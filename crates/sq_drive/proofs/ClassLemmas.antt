@@ -143,41 +143,24 @@ all_map f (x ∷ xs) all = (f x all.0, all_map f xs all.1)
 abbrev pub IsDueLine : Due → Class → List ℕ → Type 0
 IsDueLine d c l = (is_line false l ≡ true) × (is_of_class c l ≡ true) × (is_classed d l ≡ true)
 
--- the lines of the outputs, and of the drops, that a test picks
-picked_output : (P : List ℕ → Type 0) (p : List ℕ → Bool) (t : Bool) (o : List ℕ × List (List ℕ)) (os : Outputs) → p o.0 ≡ t → (p o.0 ≡ true → AllByRecursion P o.1)
-    → AllByRecursion P (flat_map (λ x. x.1) (filter (λ x. p x.0) os)) → AllByRecursion P (flat_map (λ x. x.1) (filter (λ x. p x.0) (o ∷ os)))
-picked_output P p true o os e one more = rw e (all_append P o.1 (flat_map (λ x. x.1) (filter (λ x. p x.0) os)) (one e) more)
-picked_output P p false o os e one more = rw e more
+-- the lines of the parts that a test picks
+module _ {A : Type 0} (P : List ℕ → Type 0) (p : A → Bool) where
+  picked_first : (t : Bool) (o : A × List (List ℕ)) (os : List (A × List (List ℕ))) → p o.0 ≡ t → (p o.0 ≡ true → AllByRecursion P o.1)
+      → AllByRecursion P (flat_map (λ x. x.1) (filter (λ x. p x.0) os)) → AllByRecursion P (flat_map (λ x. x.1) (filter (λ x. p x.0) (o ∷ os)))
+  picked_first true o os e one more = rw e (all_append P o.1 (flat_map (λ x. x.1) (filter (λ x. p x.0) os)) (one e) more)
+  picked_first false o os e one more = rw e more
 
-picked_outputs : (P : List ℕ → Type 0) (p : List ℕ → Bool) (os : Outputs) → AllByRecursion (λ o. p o.0 ≡ true → AllByRecursion P o.1) os
-    → AllByRecursion P (flat_map (λ o. o.1) (filter (λ o. p o.0) os))
-picked_outputs P p [] all = tt
-picked_outputs P p (o ∷ os) all = picked_output P p (p o.0) o os refl all.0 (picked_outputs P p os all.1)
+  picked : (os : List (A × List (List ℕ))) → AllByRecursion (λ o. p o.0 ≡ true → AllByRecursion P o.1) os → AllByRecursion P (flat_map (λ o. o.1) (filter (λ o. p o.0) os))
+  picked [] all = tt
+  picked (o ∷ os) all = picked_first (p o.0) o os refl all.0 (picked os all.1)
 
-picked_drop : (P : List ℕ → Type 0) (p : ℕ → Bool) (t : Bool) (w : ℕ × List (List ℕ)) (ws : Drops) → p w.0 ≡ t → (p w.0 ≡ true → AllByRecursion P w.1)
-    → AllByRecursion P (flat_map (λ x. x.1) (filter (λ x. p x.0) ws)) → AllByRecursion P (flat_map (λ x. x.1) (filter (λ x. p x.0) (w ∷ ws)))
-picked_drop P p true w ws e one more = rw e (all_append P w.1 (flat_map (λ x. x.1) (filter (λ x. p x.0) ws)) (one e) more)
-picked_drop P p false w ws e one more = rw e more
-
-picked_drops : (P : List ℕ → Type 0) (p : ℕ → Bool) (ws : Drops) → AllByRecursion (λ x. p x.0 ≡ true → AllByRecursion P x.1) ws
-    → AllByRecursion P (flat_map (λ x. x.1) (filter (λ x. p x.0) ws))
-picked_drops P p [] all = tt
-picked_drops P p (w ∷ ws) all = picked_drop P p (p w.0) w ws refl all.0 (picked_drops P p ws all.1)
-
--- each output's name is one of them, and each drop's number
-pub own_names : (os : Outputs) → AllByRecursion (λ o. list_any (λ x. same_bytes o.0 x.0) os ≡ true) os
-own_names [] = tt
-own_names (o ∷ os) = (
-  rw (same_bytes_itself o.0) refl,
-  all_map {P = λ y. list_any (λ x. same_bytes y.0 x.0) os ≡ true} (λ y h. or_right (same_bytes y.0 o.0) (list_any (λ x. same_bytes y.0 x.0) os) h) os (own_names os),
-)
-
-pub own_numbers : (ws : Drops) → AllByRecursion (λ w. list_any (λ x. same_bytes (decimal w.0) (decimal x.0)) ws ≡ true) ws
-own_numbers [] = tt
-own_numbers (w ∷ ws) = (
-  rw (same_bytes_itself (decimal w.0)) refl,
-  all_map {P = λ y. list_any (λ x. same_bytes (decimal y.0) (decimal x.0)) ws ≡ true}
-      (λ y h. or_right (same_bytes (decimal y.0) (decimal w.0)) (list_any (λ x. same_bytes (decimal y.0) (decimal x.0)) ws) h) ws (own_numbers ws),
+-- the name of each part is one of them
+own : {A : Type 0} (text : A → List ℕ) (os : List (A × List (List ℕ))) → AllByRecursion (λ o. list_any (λ x. same_bytes (text o.0) (text x.0)) os ≡ true) os
+own text [] = tt
+own text (o ∷ os) = (
+  rw (same_bytes_itself (text o.0)) refl,
+  all_map {P = λ y. list_any (λ x. same_bytes (text y.0) (text x.0)) os ≡ true}
+      (λ y h. or_right (same_bytes (text y.0) (text o.0)) (list_any (λ x. same_bytes (text y.0) (text x.0)) os) h) os (own text os),
 )
 
 dropped_first : (t : Bool) (x : ℕ × List (List ℕ)) (ws : Drops) (l w : List ℕ) → same_bytes (first_field l) (codes "@drop") ≡ true → second_field l ≡ w → same_bytes w (decimal x.0) ≡ t
@@ -191,69 +174,54 @@ any_dropped : (ws : Drops) (l w : List ℕ) → same_bytes (first_field l) (code
 any_dropped [] l w first second h = cc
 any_dropped (x ∷ ws) l w first second h = dropped_first (same_bytes w (decimal x.0)) x ws l w first second refl (any_dropped ws l w first second) h
 
--- one of the four tests holds
-any_of_four : (a b c d : Bool) → b ≡ true → (a || b || c || d) ≡ true
-any_of_four true b c d h = refl
-any_of_four false b c d h = rw h refl
-
-third_of_four : (a b c d : Bool) → c ≡ true → (a || b || c || d) ≡ true
-third_of_four true b c d h = refl
-third_of_four false true c d h = refl
-third_of_four false false c d h = rw h refl
-
-last_of_four : (a b c d : Bool) → d ≡ true → (a || b || c || d) ≡ true
-last_of_four true b c d h = refl
-last_of_four false true c d h = refl
-last_of_four false false true d h = refl
-last_of_four false false false d h = h
-
 module _ (d : Due) (s : TellsClasses d) where
   pub classed_shown : (n l : List ℕ) → list_any (λ x. same_bytes n x.0) d.shown ≡ true → is_of_class (Shown n) l ≡ true → is_classed d l ≡ true
   classed_shown n l named is =
       let first = same_bytes_true (first_field l) n is in
       let any : list_any (λ x. same_bytes (first_field l) x.0) d.shown ≡ true = rw first named in rw any refl
 
-  pub classed_dropped : (w : ℕ) (l : List ℕ) → list_any (λ x. same_bytes (decimal w) (decimal x.0)) d.dropped ≡ true → is_of_class (Dropped w) l ≡ true → is_classed d l ≡ true
-  classed_dropped w l named is =
-      let both = and_true _ _ is in
-      any_of_four (list_any (λ o. is_of_class (Shown o.0) l) d.shown) (list_any (λ x. is_of_class (Dropped x.0) l) d.dropped) (is_of_class Planned l) (is_of_class Ended l)
-      (any_dropped d.dropped l (decimal w) both.0 (same_bytes_true (second_field l) (decimal w) both.1) named)
+  -- a line of the drops, of the plans or of the end passes a test behind those before
+  module _ (l : List ℕ) where
+    abbrev of_output : Bool
+    of_output = list_any (λ o. is_of_class (Shown o.0) l) d.shown
 
-  pub classed_planned : (l : List ℕ) → is_of_class Planned l ≡ true → is_classed d l ≡ true
-  classed_planned l is =
-      third_of_four (list_any (λ o. is_of_class (Shown o.0) l) d.shown) (list_any (λ x. is_of_class (Dropped x.0) l) d.dropped) (is_of_class Planned l) (is_of_class Ended l) is
+    abbrev of_drop : Bool
+    of_drop = list_any (λ x. is_of_class (Dropped x.0) l) d.dropped
 
-  pub classed_ended : (l : List ℕ) → is_of_class Ended l ≡ true → is_classed d l ≡ true
-  classed_ended l is =
-      last_of_four (list_any (λ o. is_of_class (Shown o.0) l) d.shown) (list_any (λ x. is_of_class (Dropped x.0) l) d.dropped) (is_of_class Planned l) (is_of_class Ended l) is
+    pub classed_dropped : (w : ℕ) → list_any (λ x. same_bytes (decimal w) (decimal x.0)) d.dropped ≡ true → is_of_class (Dropped w) l ≡ true → is_classed d l ≡ true
+    classed_dropped w named is =
+        let both = and_true _ _ is in
+        or_left (of_output || of_drop || is_of_class Planned l) (is_of_class Ended l) (or_left (of_output || of_drop) (is_of_class Planned l)
+        (or_right of_output of_drop (any_dropped d.dropped l (decimal w) both.0 (same_bytes_true (second_field l) (decimal w) both.1) named)))
 
-  -- the lines of an output are lines of each class that has its name
-  shown_due : (name : List ℕ) (os : Outputs) → AllByRecursion (λ o. list_any (λ x. same_bytes o.0 x.0) d.shown ≡ true) os
-      → AllByRecursion (λ o. AllByRecursion (IsLineOf (Shown o.0)) o.1) os → AllByRecursion (λ o. same_bytes o.0 name ≡ true → AllByRecursion (IsDueLine d (Shown name)) o.1) os
-  shown_due name [] named all = tt
-  shown_due name (o ∷ os) named all = (
-    λ e. all_map {P = IsLineOf (Shown o.0)}
-        (λ l h. (h.0, subst (λ x. same_bytes (first_field l) x ≡ true) (same_bytes_true o.0 name e) h.1, classed_shown o.0 l named.0 h.1)) o.1 all.0,
-    shown_due name os named.1 all.1,
-  )
+    pub classed_planned : is_of_class Planned l ≡ true → is_classed d l ≡ true
+    classed_planned is = or_left (of_output || of_drop || is_of_class Planned l) (is_of_class Ended l) (or_right (of_output || of_drop) (is_of_class Planned l) is)
 
-  dropped_due : (w : ℕ) (ws : Drops) → AllByRecursion (λ v. list_any (λ x. same_bytes (decimal v.0) (decimal x.0)) d.dropped ≡ true) ws
-      → AllByRecursion (λ x. AllByRecursion (IsLineOf (Dropped x.0)) x.1) ws
-      → AllByRecursion (λ x. same_bytes (decimal x.0) (decimal w) ≡ true → AllByRecursion (IsDueLine d (Dropped w)) x.1) ws
-  dropped_due w [] named all = tt
-  dropped_due w (v ∷ ws) named all = (
-    λ e. all_map {P = IsLineOf (Dropped v.0)}
-        (λ l h. (
-          h.0,
-          subst (λ t. (same_bytes (first_field l) (codes "@drop") && same_bytes (second_field l) t) ≡ true) (same_bytes_true (decimal v.0) (decimal w) e) h.1,
-          classed_dropped v.0 l named.0 h.1,
-        )) v.1 all.0,
-    dropped_due w ws named.1 all.1,
-  )
+    pub classed_ended : is_of_class Ended l ≡ true → is_classed d l ≡ true
+    classed_ended is = or_right (of_output || of_drop || is_of_class Planned l) (is_of_class Ended l) is
+
+  -- the lines of a part are lines of each class that has its name
+  parts_due : {A : Type 0} (of : A → Class) (c : Class) (p : A → Bool) (N : A → Type 0) → ((a : A) (l : List ℕ) → N a → p a ≡ true → IsLineOf (of a) l → IsDueLine d c l)
+      → (os : List (A × List (List ℕ))) → AllByRecursion (λ o. N o.0) os → AllByRecursion (λ o. AllByRecursion (IsLineOf (of o.0)) o.1) os
+      → AllByRecursion (λ o. p o.0 ≡ true → AllByRecursion (IsDueLine d c) o.1) os
+  parts_due of c p N f [] named all = tt
+  parts_due of c p N f (o ∷ os) named all = (λ e. all_map {P = IsLineOf (of o.0)} (λ l h. f o.0 l named.0 e h) o.1 all.0, parts_due of c p N f os named.1 all.1)
 
   -- each line of a class is one line, of the class
   pub lines_due : (c : Class) → AllByRecursion (IsDueLine d c) (class_lines d c)
-  lines_due (Shown name) = picked_outputs (IsDueLine d (Shown name)) (λ n. same_bytes n name) d.shown (shown_due name d.shown (own_names d.shown) s.shown)
-  lines_due (Dropped w) = picked_drops (IsDueLine d (Dropped w)) (λ v. same_bytes (decimal v) (decimal w)) d.dropped (dropped_due w d.dropped (own_numbers d.dropped) s.dropped)
+  lines_due (Shown name) =
+      let p = λ (n : List ℕ). same_bytes n name in
+      picked (IsDueLine d (Shown name)) p d.shown
+      (parts_due (λ n. Shown n) (Shown name) p (λ n. list_any (λ x. same_bytes n x.0) d.shown ≡ true)
+      (λ n l named e h. (h.0, subst (λ x. same_bytes (first_field l) x ≡ true) (same_bytes_true n name e) h.1, classed_shown n l named h.1)) d.shown (own (λ n. n) d.shown) s.shown)
+  lines_due (Dropped w) =
+      let p = λ (v : ℕ). same_bytes (decimal v) (decimal w) in
+      picked (IsDueLine d (Dropped w)) p d.dropped
+      (parts_due (λ v. Dropped v) (Dropped w) p (λ v. list_any (λ x. same_bytes (decimal v) (decimal x.0)) d.dropped ≡ true)
+      (λ v l named e h. (
+        h.0,
+        subst (λ t. (same_bytes (first_field l) (codes "@drop") && same_bytes (second_field l) t) ≡ true) (same_bytes_true (decimal v) (decimal w) e) h.1,
+        classed_dropped l v named h.1,
+      )) d.dropped (own (λ v. decimal v) d.dropped) s.dropped)
   lines_due Planned = all_map {P = IsLineOf Planned} (λ l h. (h.0, h.1, classed_planned l h.1)) d.planned s.planned
   lines_due Ended = all_map {P = IsLineOf Ended} (λ l h. (h.0, h.1, classed_ended l h.1)) d.ended s.ended

@@ -1,9 +1,8 @@
--- Lists of all lines: one that has each class whole, nothing else, and the end lines last, is an order of writing. So is that of
--- the outputs one after another.
-use Rattle.std.proofs.Common.{◌≡◌, ◌≢◌, inl, inr, ℕ, Bool, true, false, not, ◌&&◌, ◌||◌, List, [], ◌∷◌, ◌++◌, refl, ap, ap₂, sym, ◌∙◌, subst, append_assoc, append-nil}
+-- Lists of all lines: one that has each class whole, nothing else, and the end lines last, is an order of writing.
+use Rattle.std.proofs.Common.{◌≡◌, ◌≢◌, inl, inr, ℕ, Bool, true, false, not, ◌&&◌, ◌||◌, List, [], ◌∷◌, ◌++◌, refl, ap, sym, ◌∙◌, subst, append_assoc}
 use Rattle.std.specs.Prelude.{if◌then◌else◌, codes}
 use Rattle.std.specs.Fmt.{decimal}
-use Rattle.std.specs.List.{AllByRecursion, filter, flat_map, list_all, list_any}
+use Rattle.std.specs.List.{AllByRecursion, filter, list_all, list_any}
 use Rattle.std.proofs.lemmas.List.Elements.{filter-append}
 use Rattle.std.proofs.lemmas.List.Folds.{list_all-append}
 use Rattle.sq_words.specs.Lists.{same_bytes, IsPrefixOf}
@@ -11,9 +10,8 @@ use Rattle.sq_lines.specs.Classes.{Class, Shown, Dropped, Planned, Ended, first_
 use Rattle.sq_flow.proofs.ArcLemmas.{front-none}
 use Rattle.sq_drive.specs.Due.{Due}
 use Rattle.sq_drive.specs.Answers.{AreOthersAll, IsClassIn, is_classed, class_lines}
-use Rattle.sq_drive.proofs.ClassLemmas.{Drops, IsLineOf, IsPlainClass, IsPlainName, Outputs, TellsClasses, alike, all_map, classed_dropped, classed_ended, classed_planned, classed_shown, end_field-plain, is_end_field, not_ended, own_names, own_numbers, plain_class, plain_differs, same_bytes-plain}
+use Rattle.sq_drive.proofs.ClassLemmas.{Drops, IsLineOf, IsPlainClass, IsPlainName, Outputs, TellsClasses, alike, all_map, end_field-plain, is_end_field, not_ended, plain_class, plain_differs, same_bytes-plain}
 use Rattle.sq_drive.proofs.SortedLines.{InBack, InFront, cut_twice, filter_same, list_all-back}
-use Rattle.sq_drive.proofs.DueWords.{all_lines}
 use Rattle.sq_drive.proofs.OrderWords.{IsNextOf, EachIsNext, IsLineOrder, AreAll}
 use Rattle.sq_words.proofs.Bools.{and_true}
 use Rattle.std.proofs.lemmas.Bool.{or_right, false_from_ne_true}
@@ -183,13 +181,6 @@ ended_test (Dropped w) l plain ends = rw (end_field-other (first_field l) (codes
 ended_test Planned l plain ends = end_field-other (first_field l) (codes "@plan") ends refl
 ended_test Ended l plain ends = ends
 
--- the lines of the outputs, and of the drops, that a test picks
-abbrev picked : (List ℕ → Bool) → Outputs → List (List ℕ)
-picked p os = flat_map (λ o. o.1) (filter (λ o. p o.0) os)
-
-abbrev picked_drops : (ℕ → Bool) → Drops → List (List ℕ)
-picked_drops p ws = flat_map (λ x. x.1) (filter (λ x. p x.0) ws)
-
 pub all_pass : (q : List ℕ → Bool) (xs : List (List ℕ)) → AllByRecursion (λ l. q l ≡ true) xs → list_all q xs ≡ true
 all_pass q [] all = refl
 all_pass q (x ∷ xs) all = rw (all.0, all_pass q xs all.1) refl
@@ -197,122 +188,6 @@ all_pass q (x ∷ xs) all = rw (all.0, all_pass q xs all.1) refl
 pub both_pass : (q : List ℕ → Bool) (xs ys : List (List ℕ)) → list_all q xs ≡ true → list_all q ys ≡ true → list_all q (xs ++ ys) ≡ true
 both_pass q xs ys a b = list_all-append q xs ys ∙ ap (λ t. t && list_all q ys) a ∙ b
 
-abbrev Parts : Type 0 → Type 0
-Parts A = List (A × List (List ℕ))
-
-module _ {A : Type 0} where
-  picked_one : (p : A → Bool) (t : Bool) (o : A × List (List ℕ)) (os : Parts A) → p o.0 ≡ t
-      → flat_map (λ x. x.1) (filter (λ x. p x.0) (o ∷ os)) ≡ (if t then o.1 else []) ++ flat_map (λ x. x.1) (filter (λ x. p x.0) os)
-  picked_one p true o os e = rw e refl
-  picked_one p false o os e = rw e refl
-
-  picked_none : (p : A → Bool) (os : Parts A) → ((a : A) → p a ≡ false) → flat_map (λ x. x.1) (filter (λ x. p x.0) os) ≡ []
-  picked_none p [] none = refl
-  picked_none p (o ∷ os) none = picked_one p false o os (none o.0) ∙ picked_none p os none
-
-  -- a test of lines that answers the same for all lines of a part
-  filter_parts : (q : List ℕ → Bool) (p : A → Bool) (os : Parts A) → AllByRecursion (λ o. AllByRecursion (λ l. q l ≡ p o.0) o.1) os
-      → filter q (flat_map (λ o. o.1) os) ≡ flat_map (λ x. x.1) (filter (λ x. p x.0) os)
-  filter_parts q p [] all = refl
-  filter_parts q p (o ∷ os) all =
-      filter-append q o.1 (flat_map (λ x. x.1) os)
-      ∙ ap₂ (λ xs ys. xs ++ ys) (filter_same q (p o.0) o.1 all.0) (filter_parts q p os all.1)
-      ∙ sym (picked_one p (p o.0) o os refl)
-
-  all_parts : (q : List ℕ → Bool) (os : Parts A) → AllByRecursion (λ o. AllByRecursion (λ l. q l ≡ true) o.1) os → list_all q (flat_map (λ o. o.1) os) ≡ true
-  all_parts q [] all = refl
-  all_parts q (o ∷ os) all = both_pass q o.1 (flat_map (λ x. x.1) os) (all_pass q o.1 all.0) (all_parts q os all.1)
-
-all_named : {A : Type 0} {N P Q : A × List (List ℕ) → Type 0} (f : (o : A × List (List ℕ)) → N o → P o → Q o) (os : List (A × List (List ℕ)))
-    → AllByRecursion N os → AllByRecursion P os → AllByRecursion Q os
-all_named f [] named all = tt
-all_named f (o ∷ os) named all = (f o named.0 all.0, all_named f os named.1 all.1)
-
--- all lines, those of the outputs first
-module _ (d : Due) (s : TellsClasses d) where
-  abbrev pub shown_lines : List (List ℕ)
-  shown_lines = flat_map (λ o. o.1) d.shown
-
-  abbrev pub dropped_lines : List (List ℕ)
-  dropped_lines = flat_map (λ x. x.1) d.dropped
-
-  -- what a test has of the lines of the outputs, the drops, the plans and the end
-  module _ (c : Class) (plain : IsPlainClass c) where
-    filter_shown : filter (is_of_class c) shown_lines ≡ picked (λ n. tells (Shown n) c) d.shown
-    filter_shown = filter_parts (is_of_class c) (λ n. tells (Shown n) c) d.shown
-        (all_named {N = λ o. IsPlainName o.0} {P = λ o. AllByRecursion (IsLineOf (Shown o.0)) o.1}
-        (λ o n ls. all_map {P = IsLineOf (Shown o.0)} (λ l h. shown_test c o.0 l n h.1) o.1 ls) d.shown s.names s.shown)
-
-    filter_dropped : filter (is_of_class c) dropped_lines ≡ picked_drops (λ w. tells (Dropped w) c) d.dropped
-    filter_dropped = filter_parts (is_of_class c) (λ w. tells (Dropped w) c) d.dropped
-        (all_map {P = λ x. AllByRecursion (IsLineOf (Dropped x.0)) x.1} (λ x ls. all_map {P = IsLineOf (Dropped x.0)} (λ l h. dropped_test x.0 l h.1 c plain) x.1 ls) d.dropped s.dropped)
-
-    filter_planned : filter (is_of_class c) d.planned ≡ (if tells Planned c then d.planned else [])
-    filter_planned = filter_same (is_of_class c) (tells Planned c) d.planned (all_map {P = IsLineOf Planned} (λ l h. planned_test c l plain h.1) d.planned s.planned)
-
-    pub filter_ended : filter (is_of_class c) d.ended ≡ (if tells Ended c then d.ended else [])
-    filter_ended = filter_same (is_of_class c) (tells Ended c) d.ended (all_map {P = IsLineOf Ended} (λ l h. ended_test c l plain h.1) d.ended s.ended)
-
-    filter_all : filter (is_of_class c) (all_lines d)
-        ≡ picked (λ n. tells (Shown n) c) d.shown ++ (picked_drops (λ w. tells (Dropped w) c) d.dropped ++ ((if tells Planned c then d.planned else []) ++ (if tells Ended c then d.ended else [])))
-    filter_all =
-        let p = is_of_class c in
-        filter-append p shown_lines (dropped_lines ++ (d.planned ++ d.ended))
-        ∙ ap₂ (λ xs ys. xs ++ ys) filter_shown
-        (filter-append p dropped_lines (d.planned ++ d.ended)
-        ∙ ap₂ (λ xs ys. xs ++ ys) filter_dropped (filter-append p d.planned d.ended ∙ ap₂ (λ xs ys. xs ++ ys) filter_planned filter_ended))
-
-  lines_are : (c : Class) → IsPlainClass c → filter (is_of_class c) (all_lines d) ≡ class_lines d c
-  lines_are (Shown name) plain =
-      filter_all (Shown name) plain ∙ rw (picked_none (λ w. false) d.dropped (λ w. refl)) (append-nil (picked (λ n. same_bytes n name) d.shown))
-  lines_are (Dropped w) plain =
-      filter_all (Dropped w) plain ∙ rw (picked_none (λ n. false) d.shown (λ n. refl)) (append-nil (picked_drops (λ v. same_bytes (decimal v) (decimal w)) d.dropped))
-  lines_are Planned plain =
-      filter_all Planned plain ∙ rw (picked_none (λ n. false) d.shown (λ n. refl), picked_none (λ w. false) d.dropped (λ w. refl)) (append-nil d.planned)
-  lines_are Ended plain =
-      filter_all Ended plain ∙ rw (picked_none (λ n. false) d.shown (λ n. refl), picked_none (λ w. false) d.dropped (λ w. refl)) refl
-
-  shown_classed : list_all (is_classed d) shown_lines ≡ true
-  shown_classed = all_parts (is_classed d) d.shown
-      (all_named {N = λ o. list_any (λ x. same_bytes o.0 x.0) d.shown ≡ true} {P = λ o. AllByRecursion (IsLineOf (Shown o.0)) o.1}
-      (λ o n ls. all_map {P = IsLineOf (Shown o.0)} (λ l h. classed_shown d s o.0 l n h.1) o.1 ls) d.shown (own_names d.shown) s.shown)
-
-  dropped_classed : list_all (is_classed d) dropped_lines ≡ true
-  dropped_classed = all_parts (is_classed d) d.dropped
-      (all_named {N = λ w. list_any (λ x. same_bytes (decimal w.0) (decimal x.0)) d.dropped ≡ true} {P = λ x. AllByRecursion (IsLineOf (Dropped x.0)) x.1}
-      (λ w n ls. all_map {P = IsLineOf (Dropped w.0)} (λ l h. classed_dropped d s w.0 l n h.1) w.1 ls) d.dropped (own_numbers d.dropped) s.dropped)
-
-  all_classed : list_all (is_classed d) (all_lines d) ≡ true
-  all_classed =
-      let p = is_classed d in
-      both_pass p shown_lines (dropped_lines ++ (d.planned ++ d.ended)) shown_classed
-      (both_pass p dropped_lines (d.planned ++ d.ended) dropped_classed
-      (both_pass p d.planned d.ended (all_pass p d.planned (all_map {P = IsLineOf Planned} (λ l h. classed_planned d s l h.1) d.planned s.planned))
-      (all_pass p d.ended (all_map {P = IsLineOf Ended} (λ l h. classed_ended d s l h.1) d.ended s.ended))))
-
-  abbrev pub is_other : List ℕ → Bool
-  is_other l = not (is_of_class Ended l)
-
-  -- no line in front of the end lines is one
-  pub all_other : list_all is_other (shown_lines ++ (dropped_lines ++ d.planned)) ≡ true
-  all_other =
-      both_pass is_other shown_lines (dropped_lines ++ d.planned)
-      (all_parts is_other d.shown (all_named {N = λ o. IsPlainName o.0} {P = λ o. AllByRecursion (IsLineOf (Shown o.0)) o.1}
-      (λ o n ls. all_map {P = IsLineOf (Shown o.0)} (λ l h. ap not (shown_test Ended o.0 l n h.1)) o.1 ls) d.shown s.names s.shown))
-      (both_pass is_other dropped_lines d.planned
-      (all_parts is_other d.dropped (all_map {P = λ x. AllByRecursion (IsLineOf (Dropped x.0)) x.1}
-      (λ x ls. all_map {P = IsLineOf (Dropped x.0)} (λ l h. ap not (dropped_test x.0 l h.1 Ended tt)) x.1 ls) d.dropped s.dropped))
-      (all_pass is_other d.planned (all_map {P = IsLineOf Planned} (λ l h. ap not (planned_test Ended l tt h.1)) d.planned s.planned)))
-
-  pub all_whole : IsWholeList d (all_lines d)
-  all_whole = record {
-    all = λ c here. lines_are c (plain_class d c s here);
-    classed = all_classed;
-    front = shown_lines ++ (dropped_lines ++ d.planned);
-    lines_are = sym (append_assoc shown_lines (dropped_lines ++ d.planned) d.ended ∙ ap (λ xs. shown_lines ++ xs) (append_assoc dropped_lines d.planned d.ended));
-    others = all_other;
-  }
-
-  -- the outputs one after another, then the drops, the plans and the end
-  pub all_order : IsLineOrder d (all_lines d)
-  all_order = whole_order d s (all_lines d) all_whole
+-- of the end lines a class has all or none
+pub filter_ended : (d : Due) → TellsClasses d → (c : Class) → IsPlainClass c → filter (is_of_class c) d.ended ≡ (if tells Ended c then d.ended else [])
+filter_ended d s c plain = filter_same (is_of_class c) (tells Ended c) d.ended (all_map {P = IsLineOf Ended} (λ l h. ended_test c l plain h.1) d.ended s.ended)

@@ -1,4 +1,4 @@
--- What is left of an engine, step by step, whatever it has shown before.
+-- What is pending of an engine, step by step, whatever it has shown before.
 use Rattle.std.proofs.Common.{◌≡◌, ℕ, ◌+◌, ◌-◌, ◌<◌, List, [], ◌++◌, length, refl, ap, sym, ◌∙◌, subst, arith, append_assoc, append-nil, Option}
 use Rattle.std.specs.List.{AllByRecursion}
 use Rattle.sq_outside.specs.Disks.{Pages}
@@ -9,7 +9,6 @@ use Rattle.sq_plan.specs.Plans.{Setting}
 use Rattle.sq_plan.specs.PlanRows.{level_for}
 use Rattle.sq_points.specs.Points.{points_of, drops_in}
 use Rattle.sq_pool.specs.Trust.{Tells}
-use Rattle.sq_queue.specs.Faces.{Together}
 use Rattle.sq_actor.specs.declared.actor.Actor.{Actor}
 use Rattle.sq_flow.specs.declared.flow.Flow.{Flow}
 use Rattle.sq_flow.specs.declared.wires.Wires.{Wires}
@@ -17,7 +16,7 @@ use Rattle.sq_flow.specs.Events.{IsEventIn, drops_of, lines_of}
 use Rattle.sq_flow.specs.Flows.{HoldsItems, Stepped, decisions_left, items_in, lines_left}
 use Rattle.sq_flow.specs.Plans.{IsPlanned, plans_left, plans_of}
 use Rattle.sq_flow.proofs.EventLemmas.{drops-append, lines-append, plans-append}
-use Rattle.sq_flow.proofs.StepLemmas.{stepped-both, stepped-none}
+use Rattle.sq_flow.proofs.StepLemmas.{stepped-both}
 use Rattle.sq_core.specs.declared.engine.Engine.{Engine}
 use Rattle.sq_core.specs.Meanings.{actors}
 use Rattle.sq_core.specs.Runs.{IsSoundEngine}
@@ -25,11 +24,6 @@ use Rattle.sq_core.proofs.RunLemmas.{shed-in, shown-in}
 use Rattle.sq_drive.specs.Driving.{IsEventAt, IsRestOf, WritesFirst, history_text}
 use Rattle.sq_words.proofs.Lists.{has_item}
 use Rattle.sq_words.proofs.Alls.{all_append}
-
--- nothing was done
-pub stepped_none : (pages : Option Pages) (e : Engine) → IsSoundEngine e → Together e.engine.flow.queues pages
-    → Stepped actors pages pages e.engine.flow e.engine.flow [] []
-stepped_none pages e sound together = stepped-none actors pages e.engine.flow [] sound.engine.flow together
 
 -- behind events that were shown
 pub stepped_behind : (was is : Option Pages) (from to : Flow Actor) (es xs : List Event) → Stepped actors was is from to [] xs

@@ -1,13 +1,11 @@
 pub mod ClassLemmas
 pub mod CountLemmas
-pub mod CountingLemmas
 pub mod DrivingLemmas
 pub mod DueLemmas
 pub mod DueWords
 pub mod FailLemmas
 pub mod LeftLemmas
 pub mod LineLemmas
-pub mod MixedLemmas
 pub mod OrderWords
 pub mod OutcomeLemmas
 pub mod Rows

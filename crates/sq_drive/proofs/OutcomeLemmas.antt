@@ -1,64 +1,91 @@
--- What was written of a run that came to its end, or of one that stopped.
-use Rattle.std.proofs.Common.{◌≡◌, ℕ, List, ◌++◌, inl, inr, refl, subst, arith, Option}
+-- What was written, or counted, of a run that came to its end, or of one that stopped.
+use Rattle.std.proofs.Common.{◌≡◌, ℕ, List, [], ◌++◌, inl, inr, length, map, ap, ◌∙◌, subst, sym, arith, Option}
 use Rattle.std.specs.List.{AllByRecursion}
+use Rattle.sq_value.specs.declared.Tuple.{Tuple}
+use Rattle.sq_words.specs.Lists.{numbers_to}
 use Rattle.sq_outside.specs.Faults.{Rose}
 use Rattle.sq_outside.specs.Sinks.{AppendsPrefix, appended}
 use Rattle.sq_net.specs.declared.Network.{Network}
+use Rattle.sq_oper.specs.declared.outs.Decision.{Decision}
 use Rattle.sq_oper.specs.declared.outs.Event.{Event}
-use Rattle.sq_model.specs.Shedding.{Replay}
-use Rattle.sq_pool.specs.Trust.{Tells, known}
-use Rattle.sq_queue.specs.Faces.{Together}
-use Rattle.sq_core.specs.Runs.{IsRun, IsSoundEngine}
+use Rattle.sq_pool.specs.Trust.{known}
+use Rattle.sq_points.specs.Points.{drops_in}
+use Rattle.sq_flow.specs.Events.{drops_of, lines_of}
+use Rattle.sq_core.specs.Runs.{IsSoundEngine}
 use Rattle.sq_status.specs.declared.Status.{Status}
-use Rattle.sq_status.specs.declared.Status.TheVariants as status
-use Rattle.sq_drive.specs.Driving.{IsCutShort, IsDriven, HasEnded, IsEventAt, IsHalted, WritesFirst, WritesRest, history_text}
-use Rattle.sq_drive.specs.Turns.{KeepsRun, RunState, RunsOut, TurnFails}
+use Rattle.sq_drive.specs.declared.counting.Counts.{Counts}
+use Rattle.sq_drive.specs.Counting.{AreCountsOf, HasCounts}
+use Rattle.sq_drive.specs.Driving.{HasEnded, IsCutShort, IsEventAt, history_text}
+use Rattle.sq_drive.specs.Due.{answer_in}
+use Rattle.sq_drive.specs.States.{SinkState}
+use Rattle.sq_drive.specs.Turns.{CountEnds, DriveEnds, DriveFails, EndsOn, FailsOn, KeepsRun, RunState}
 use Rattle.sq_drive.proofs.DrivingLemmas.{completes, sound_run}
 use Rattle.sq_drive.proofs.LeftLemmas.{first_shown}
-use Rattle.sq_drive.proofs.TurnLemmas.{turns_lost, turns_none}
+use Rattle.sq_drive.proofs.SameNumbers.{same_numbers}
 
-pub ends_so : (Whole : List Event → Type 0) (a b : RunState) → KeepsRun a b → RunsOut Whole a b → HasEnded (known a.log) (known b.log) a.engine b.engine
-ends_so Whole a b keeps out = record { went = record { shown = out.events; stepped = out.left }; network = keeps.network; sound = out.sound; done = out.done }
+module _ (a b : RunState) (events : List Event) where
+  module _ (keeps : KeepsRun a b) (ends : EndsOn a b events) where
+    ended_so : HasEnded (known a.log) (known b.log) a.engine b.engine
+    ended_so = record { went = record { shown = events; stepped = ends.on.left }; network = keeps.network; sound = ends.on.sound; done = ends.done }
 
-module _ (a b : RunState) (before now : Option (List ℕ)) (out : RunsOut (λ events. now ≡ appended before (history_text a.engine.network events)) a b) where
-  pub drive_ends : (r : Replay) (history : List Event) (begun : ℕ) → Tells (known b.log) → IsRun r (known a.log) a.engine history begun a.steps
-      → IsDriven r history b.engine before now begun b.steps
-  drive_ends r history begun told run =
-      let whole = out.all told r history begun run in
-      record {
-        events = out.events;
-        shown = subst (λ (n : Network). AllByRecursion (IsEventAt n) out.events) run.network out.there;
-        all = completes r (sound_run r (known a.log) a.engine history begun a.steps run) b.engine (history ++ out.events) begun b.steps whole;
-        written = subst (λ (n : Network). now ≡ appended before (history_text n out.events)) run.network out.shown;
-        took = whole.took;
-        fed = whole.fed;
-        late = whole.late;
-        work = whole.work;
-      }
+    pub drive_ends : (before now : Option (List ℕ)) → now ≡ appended before (history_text a.engine.network events) → DriveEnds a b before now
+    drive_ends before now written = record {
+      ended = ended_so;
+      driven = λ r history begun told run.
+          let whole = ends.all told r history begun run in
+          record {
+            events = events;
+            shown = subst (λ (n : Network). AllByRecursion (IsEventAt n) events) run.network ends.on.there;
+            all = completes r (sound_run r (known a.log) a.engine history begun a.steps run) b.engine (history ++ events) begun b.steps whole;
+            written = subst (λ (n : Network). now ≡ appended before (history_text n events)) run.network written;
+            took = whole.took;
+            fed = whole.fed;
+            late = whole.late;
+            work = whole.work;
+          };
+      rest = record { events = events; shown = ends.on.there; written = written; rest = ends.rest };
+    }
 
-  pub drive_rest : WritesRest (known a.log) (known b.log) a.engine b.engine before now
-  drive_rest = record { events = out.events; shown = out.there; written = out.shown; rest = out.rest }
+    -- counts of what was shown are those of the answer
+    pub count_ends : (counts : Counts) → HasCounts a.engine.network counts → AreCountsOf events counts → CountEnds a b counts
+    count_ends counts room are = record {
+      ended = ended_so;
+      room = subst (λ n. HasCounts n counts) (sym keeps.network) room;
+      summed = λ r begun told run.
+          let whole = ends.all told r [] begun run in
+          let complete = completes r (sound_run r (known a.log) a.engine [] begun a.steps run) b.engine events begun b.steps whole in
+          let outputs : length counts.lines.items ≡ length r.network.outputs = room.lines ∙ ap (λ (n : Network). length n.outputs) run.network in
+          let drops : length counts.drops.items ≡ drops_in r.network = room.drops ∙ ap drops_in run.network in
+          record {
+            lines = are.lines
+                ∙ ap (λ many. map (λ o. length (lines_of o events)) (numbers_to many)) outputs
+                ∙ same_numbers (λ o. length (lines_of o events)) (λ o. length ((answer_in r).tuples o)) (length r.network.outputs)
+                (λ o low. ap (λ (xs : List Tuple). length xs) (complete.lines o low));
+            drops = are.drops
+                ∙ ap (λ many. map (λ w. length (drops_of w events)) (numbers_to many)) drops
+                ∙ same_numbers (λ w. length (drops_of w events)) (λ w. length ((answer_in r).decisions w)) (drops_in r.network)
+                (λ w low. ap (λ (xs : List Decision). length xs) (complete.drops w low));
+            took = whole.took;
+            fed = whole.fed;
+            late = whole.late;
+            work = whole.work;
+          };
+    }
 
--- of what began to go out a beginning was written
-module _ (Begun : List Event → Type 0) (lost lost' : ℕ) (a b : RunState) (s : Status) (fails : TurnFails Begun lost lost' a b s) (before now : Option (List ℕ))
-    (writes : (events : List Event) → Begun events → AppendsPrefix before now (history_text a.engine.network events)) where
-  pub drive_halts : (r : Replay) (history : List Event) (begun : ℕ) → Tells (known b.log) → IsRun r (known a.log) a.engine history begun a.steps
-      → IsHalted a.log.honest r history s before now begun b.steps
-  drive_halts r history begun told run = record {
-    events = fails.events;
-    shown = subst (λ (n : Network). AllByRecursion (IsEventAt n) fails.events) run.network fails.there;
-    written = subst (λ (n : Network). AppendsPrefix before now (history_text n fails.events)) run.network (writes fails.events fails.begun);
-    stopped = fails.stops told r history begun run;
+  -- of what began to go out a beginning was written
+  pub drive_fails : IsSoundEngine a.engine → (s : Status) → FailsOn a.engine.network a b events s → (was is : SinkState) → IsCutShort was.faults is.faults s
+      → AppendsPrefix was.written is.written (history_text a.engine.network events) → DriveFails a (record { log = b.log; faults = b.faults }) b.steps was is s
+  drive_fails sound s fails was is cut written = record {
+    halted = λ r history begun told run. record {
+      events = events;
+      shown = subst (λ (n : Network). AllByRecursion (IsEventAt n) events) run.network fails.there;
+      written = subst (λ (n : Network). AppendsPrefix was.written is.written (history_text n events)) run.network written;
+      stopped = fails.stops told r history begun run;
+    };
+    first = first_shown (known a.log) (known b.log) a.engine sound fails.mid fails.tells fails.last events fails.left was.written is.written fails.there written;
+    cut = cut;
+    stopped = fails.cause;
   }
-
-  pub drive_first : IsSoundEngine a.engine → WritesFirst (known a.log) (known b.log) a.engine before now
-  drive_first sound =
-      first_shown (known a.log) (known b.log) a.engine sound fails.mid fails.tells fails.last fails.events fails.left before now fails.there (writes fails.events fails.begun)
-
--- memory runs out before the first turn
-pub fails_at_once : (a : RunState) → IsSoundEngine a.engine → Together a.engine.engine.flow.queues (known a.log) → TurnFails (λ events. Unit {0}) 0 0 a a status.Memory
-fails_at_once a sound together =
-    turns_lost (λ events. Unit {0}) a a (turns_none (λ events. Unit {0}) a sound together tt) (λ events. Unit {0}) tt 0 0 0 status.Memory (omega arith) (inl refl)
 
 -- what has no fault is cut short by none
 pub cut_always : (s : Status) → IsCutShort 0 0 s → (before now : ℕ) → IsCutShort before now s

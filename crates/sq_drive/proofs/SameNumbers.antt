@@ -1,5 +1,6 @@
--- Two functions that agree on the first numbers.
-use Rattle.std.proofs.Common.{ap₂, arith, map, refl, suc, zero, ℕ, ◌≡◌, ◌+◌, ◌∷◌, ◌<◌}
+-- Functions of the first numbers, listed.
+use Rattle.std.proofs.Common.{List, ap, ap₂, arith, length, map, refl, suc, zero, ℕ, ◌≡◌, ◌+◌, ◌∙◌, ◌∷◌, ◌<◌}
+use Rattle.std.proofs.lemmas.List.FromFn.{length-map-range_with_len}
 use Rattle.sq_words.specs.Lists.{numbers_to}
 use Rattle.std.specs.List.{range_with_len}
 
@@ -11,3 +12,6 @@ same_below f g from (suc many) same =
 
 pub same_numbers : (f g : ℕ → ℕ) (many : ℕ) → ((at : ℕ) → at < many → f at ≡ g at) → map f (numbers_to many) ≡ map g (numbers_to many)
 same_numbers f g many same = same_below f g 0 many (λ at below. same at (omega (arith, below)))
+
+pub many_listed : (f : ℕ → ℕ) (many : ℕ) (xs : List ℕ) → xs ≡ map f (numbers_to many) → length xs ≡ many
+many_listed f many xs is = ap (λ (ys : List ℕ). length ys) is ∙ length-map-range_with_len f 0 many

@@ -1,6 +1,6 @@
 -- Why engines stop, and what is cut short.
 use Rattle.sq_actor.specs.declared.actor.Actor.{Actor}
-use Rattle.std.proofs.Common.{Bool, List, ap, arith, false, inl, inr, refl, subst, suc, sym, true, zero, ℕ, ◌≡◌, ◌≤◌, ◌∙◌, ◌<◌}
+use Rattle.std.proofs.Common.{Bool, ap, arith, false, inl, inr, refl, subst, suc, sym, true, zero, ℕ, ◌≡◌, ◌≤◌, ◌∙◌, ◌<◌}
 use Rattle.sq_outside.specs.Disks.{DiskLog}
 use Rattle.sq_core.specs.declared.engine.Engine.{Engine}
 use Rattle.sq_drive.specs.Stopping.{FailedIn, StopHasCause, status_of}
@@ -10,7 +10,7 @@ use Rattle.sq_flow.specs.Causes.{IsCauseIn, IsPageRefused}
 use Rattle.sq_drive.specs.Driving.{IsCutShort}
 use Rattle.sq_drive.specs.Writing.{IsLost}
 use Rattle.sq_flow.specs.Takes.{NotChanged}
-use Rattle.sq_paged.specs.declared.store.QueueErr.{QueueErr}
+use Rattle.sq_bring.specs.declared.bring.QueueErr.{QueueErr}
 use Rattle.sq_queue.specs.declared.Queues.{Queues}
 use Rattle.sq_outside.specs.Faults.{Rose}
 use Rattle.sq_flow.specs.declared.errors.RunErr.{RunErr}
@@ -18,7 +18,7 @@ use Rattle.sq_status.specs.declared.Status.{Status}
 use Rattle.sq_status.specs.StatusKinds.{is_changed, is_garbled}
 use Rattle.sq_work.proofs.StoppedLemmas.{rose_later}
 use Rattle.sq_flow.specs.declared.errors.RunErr.TheVariants as run_err
-use Rattle.sq_paged.specs.declared.store.QueueErr.TheVariants as queue
+use Rattle.sq_bring.specs.declared.bring.QueueErr.TheVariants as queue
 use Rattle.sq_status.specs.declared.Status.TheVariants as status
 
 failed_map : (P Q : Engine → Type 0) (X Y : Flow Actor → Type 0) → ((e : Engine) → P e → Q e) → ((flow : Flow Actor) → X flow → Y flow) → FailedIn P X → FailedIn Q Y
@@ -86,11 +86,15 @@ pub cut_later : (before mid now : ℕ) (s : Status) → before ≤ mid → IsCut
 cut_later before mid now s le cut = record { begun = cut.begun; no_end = cut.no_end; sink = λ is. rose_later 1 before mid now le (cut.sink is) }
 
 -- what is lost cuts short
-pub lost_cut : (before mid now : ℕ) (s : Status) → before ≤ mid → IsLost mid now s → IsCutShort before now s
-lost_cut before mid now s le (inl memory) =
+pub lost_cut : (before now : ℕ) (s : Status) → IsLost before now s → IsCutShort before now s
+lost_cut before now s (inl memory) =
     subst (IsCutShort before now) (sym memory) (record { begun = refl; no_end = λ is. absurd (cc); sink = λ is. absurd (cc) })
-lost_cut before mid now s le (inr (sink, rose)) =
-    subst (IsCutShort before now) (sym sink) (record { begun = refl; no_end = λ is. absurd (cc); sink = λ is. rose_later 1 before mid now le rose })
+lost_cut before now s (inr (sink, rose)) =
+    subst (IsCutShort before now) (sym sink) (record { begun = refl; no_end = λ is. absurd (cc); sink = λ is. rose })
+
+pub lost_later : (before mid now : ℕ) (s : Status) → before ≤ mid → IsLost mid now s → IsLost before now s
+lost_later before mid now s le (inl memory) = inl memory
+lost_later before mid now s le (inr sink) = inr (sink.0, rose_later 1 before mid now le sink.1)
 
 pub lost_stop : (P : Engine → Type 0) (was is : DiskLog) (before now faults faults' : ℕ) (s : Status) → IsLost faults faults' s → StopHasCause P was is before now s
 lost_stop P was is before now faults faults' s (inl memory) = subst (StopHasCause P was is before now) (sym memory) tt

@@ -1,33 +1,35 @@
 -- Turns of a run, one after another, to its end, or to the one that fails.
 use Rattle.std.proofs.Common.{◌≡◌, ℕ, ◌≤◌, ◌^◌, List, [], ◌++◌, ap, sym, ◌∙◌, subst, refl, arith, append_assoc, append-nil}
 use Rattle.std.specs.List.{AllByRecursion}
+use Rattle.sq_net.specs.declared.Network.{Network}
 use Rattle.sq_oper.specs.declared.outs.Event.{Event}
 use Rattle.sq_sched.specs.declared.policy.Pick.{Pick}
 use Rattle.sq_model.specs.Shedding.{Replay}
 use Rattle.sq_actor.specs.declared.actor.Actor.{Actor}
 use Rattle.sq_pool.specs.Trust.{Tells, known}
 use Rattle.sq_pool.proofs.TrustLemmas.{IsLater-refl, IsLater-trans}
-use Rattle.sq_queue.specs.Faces.{Together}
 use Rattle.sq_flow.specs.declared.errors.RunErr.{RunErr}
 use Rattle.sq_flow.specs.declared.steps.Progress.{Progress}
-use Rattle.sq_flow.specs.Engines.{AllDone}
 use Rattle.sq_flow.specs.Flows.{Stepped}
 use Rattle.sq_flow.specs.Stepping.{Stage}
 use Rattle.sq_flow.proofs.CauseLemmas.{page-since}
+use Rattle.sq_flow.proofs.StepLemmas.{stepped-none}
 use Rattle.sq_core.specs.Meanings.{actors}
-use Rattle.sq_core.specs.Runs.{IsRun, IsSoundEngine, ShownAll}
+use Rattle.sq_core.specs.Runs.{IsRun}
 use Rattle.sq_core.specs.Steps.{RunFails, RunsOn}
+use Rattle.sq_core.proofs.RunLemmas.{shown-so-far}
 use Rattle.sq_status.specs.declared.Status.{Status}
 use Rattle.sq_work.proofs.StoppedLemmas.{rose_later}
+use Rattle.sq_drive.specs.declared.audience.Audience.{Ghosts}
 use Rattle.sq_drive.specs.Due.{answer_in, turns_in}
-use Rattle.sq_drive.specs.Driving.{BeginsAnswer, IsEventAt, IsRestOf, StoppedWith}
+use Rattle.sq_drive.specs.Driving.{BeginsAnswer, IsEventAt, StoppedWith}
 use Rattle.sq_drive.specs.Failing.{CameTo}
 use Rattle.sq_drive.specs.Stopping.{status_of}
-use Rattle.sq_drive.specs.Turns.{KeepsRun, RunState, RunsOut, TurnFails, TurnsOn}
-use Rattle.sq_drive.specs.Writing.{IsLost}
-use Rattle.sq_drive.proofs.DrivingLemmas.{begins_run, not_too_much, so_far}
+use Rattle.sq_drive.specs.Turns.{CanTurn, FailsOn, GoesOn, IsDrivable, KeepsRun, Moment, RunState, TurnFails, TurnsOn}
+use Rattle.sq_drive.specs.Writing.{IsLost, LosesRest}
+use Rattle.sq_drive.proofs.DrivingLemmas.{begins_run, not_too_much}
 use Rattle.sq_drive.proofs.FailLemmas.{came_at_once, came_then}
-use Rattle.sq_drive.proofs.LeftLemmas.{stepped_none, stepped_then}
+use Rattle.sq_drive.proofs.LeftLemmas.{stepped_then}
 use Rattle.sq_drive.proofs.StopLemmas.{cut_later, lost_cut, lost_garbled, lost_stop, lost_unchanged, step_cause, step_cut, step_garbled, step_much, step_unchanged, stop_map}
 use Rattle.sq_words.proofs.Alls.{all_append}
 
@@ -45,98 +47,62 @@ keeps_then a b c first second = record {
   faults = omega (arith, first.faults, second.faults);
 }
 
--- no turn yet
-pub turns_none : (Shown : List Event → Type 0) (a : RunState) → IsSoundEngine a.engine → Together a.engine.engine.flow.queues (known a.log) → Shown [] → TurnsOn Shown a a
-turns_none Shown a sound together shown = record {
-  events = [];
+-- no step yet
+pub goes_none : (a : RunState) → IsDrivable (known a.log) a.engine → GoesOn a.engine.network a a []
+goes_none a can = record {
   there = tt;
-  shown = shown;
-  left = stepped_none (known a.log) a.engine sound together;
-  goes = λ r history begun run. subst (λ xs. IsRun r (known a.log) a.engine xs begun a.steps) (sym (append-nil history)) run;
-  sound = sound;
+  left = stepped-none actors (known a.log) a.engine.engine.flow [] can.sound.engine.flow can.together;
+  runs = λ r history begun run. subst (λ xs. IsRun r (known a.log) a.engine xs begun a.steps) (sym (append-nil history)) run;
+  sound = can.sound;
 }
 
-module _ (First : List Event → Type 0) (a b : RunState) (first : TurnsOn First a b) where
-  -- what was shown is lost on its way out
-  pub turns_lost : (Begun : List Event → Type 0) → Begun first.events → (lost mid lost' : ℕ) (s : Status) → lost ≤ mid → IsLost mid lost' s → TurnFails Begun lost lost' a b s
-  turns_lost Begun begun lost mid lost' s le is-lost = record {
-    mid = known b.log;
-    tells = λ told. told;
-    last = b.engine;
-    events = first.events;
-    there = first.there;
-    begun = begun;
-    left = first.left;
-    stops = stops;
-    cut = lost_cut lost mid lost' s le is-lost;
-    cause = lost_stop (CameTo a.log b.log a.engine s) a.log b.log a.faults b.faults mid lost' s is-lost;
+module _ (n : Network) (a b : RunState) (events : List Event) (first : GoesOn n a b events) where
+  -- they go on
+  pub goes_then : (c : RunState) (more : List Event) → GoesOn n b c more → GoesOn n a c (events ++ more)
+  goes_then c more second = record {
+    there = all_append (IsEventAt n) events more first.there second.there;
+    left = stepped_then (known a.log) (known b.log) a.engine.engine.flow b.engine.engine.flow events first.left (known c.log) c.engine.engine.flow more second.left;
+    runs = λ r history begun run.
+        subst (λ xs. IsRun r (known c.log) c.engine xs begun c.steps) (append_assoc history events more)
+        (second.runs r (history ++ events) begun (first.runs r history begun run));
+    sound = second.sound;
   }
-    where
-      stops : Tells (known b.log) → (r : Replay) (history : List Event) (begun : ℕ) → IsRun r (known a.log) a.engine history begun a.steps
-          → StoppedWith a.log.honest r (history ++ first.events) begun b.steps s
-      stops told r history begun run =
-          let on = first.goes r history begun run in
-          let far = so_far r (known b.log) b.engine (history ++ first.events) begun b.steps on told in
-          record {
-            first = begins_run r (known b.log) b.engine (history ++ first.events) begun b.steps on told;
-            work = far.work;
-            unchanged = λ is-honest. lost_unchanged mid lost' s is-lost;
-            garbled = lost_garbled mid lost' s is-lost;
-            too_much = not_too_much (2 ^ 62 ≤ turns_in r) mid lost' s is-lost;
-          }
-
-  module _ (same : b.engine.network ≡ a.engine.network) where
-    there_both : (events : List Event) → AllByRecursion (IsEventAt b.engine.network) events → AllByRecursion (IsEventAt a.engine.network) (first.events ++ events)
-    there_both events there =
-        all_append (IsEventAt a.engine.network) first.events events first.there (subst (λ n. AllByRecursion (IsEventAt n) events) same there)
-
-    -- they go on
-    pub turns_then : (Second Both : List Event → Type 0) → ((more : List Event) → Second more → Both (first.events ++ more)) → (c : RunState) → TurnsOn Second b c → TurnsOn Both a c
-    turns_then Second Both join c second = record {
-      events = first.events ++ second.events;
-      there = there_both second.events second.there;
-      shown = join second.events second.shown;
-      left = stepped_then (known a.log) (known b.log) a.engine.engine.flow b.engine.engine.flow first.events first.left (known c.log) c.engine.engine.flow second.events second.left;
-      goes = λ r history begun run.
-          subst (λ xs. IsRun r (known c.log) c.engine xs begun c.steps) (append_assoc history first.events second.events)
-          (second.goes r (history ++ first.events) begun (first.goes r history begun run));
-      sound = second.sound;
-    }
 
   -- the next one fails
-  pub fails_then : KeepsRun a b → (Second Both : List Event → Type 0) → ((more : List Event) → Second more → Both (first.events ++ more))
-      → (lost mid lost' : ℕ) → lost ≤ mid → (c : RunState) (s : Status) → TurnFails Second mid lost' b c s → TurnFails Both lost lost' a c s
-  fails_then keeps Second Both join lost mid lost' le c s second = record {
+  pub fails_then : KeepsRun a b → (c : RunState) (more : List Event) (s : Status) → FailsOn n b c more s → FailsOn n a c (events ++ more) s
+  fails_then keeps c more s second = record {
     mid = second.mid;
     tells = second.tells;
     last = second.last;
-    events = first.events ++ second.events;
-    there = there_both keeps.network second.events second.there;
-    begun = join second.events second.begun;
-    left = stepped_then (known a.log) (known b.log) a.engine.engine.flow b.engine.engine.flow first.events first.left second.mid second.last.engine.flow second.events second.left;
+    there = all_append (IsEventAt n) events more first.there second.there;
+    left = stepped_then (known a.log) (known b.log) a.engine.engine.flow b.engine.engine.flow events first.left second.mid second.last.engine.flow more second.left;
     stops = λ told r history begun run.
-        subst (λ xs. StoppedWith a.log.honest r xs begun c.steps s) (append_assoc history first.events second.events)
-        (subst (λ h. StoppedWith h r ((history ++ first.events) ++ second.events) begun c.steps s) keeps.later.honest
-        (second.stops told r (history ++ first.events) begun (first.goes r history begun run)));
-    cut = cut_later lost mid lost' s le second.cut;
+        subst (λ xs. StoppedWith a.log.honest r xs begun c.steps s) (append_assoc history events more)
+        (subst (λ h. StoppedWith h r ((history ++ events) ++ more) begun c.steps s) keeps.later.honest
+        (second.stops told r (history ++ events) begun (first.runs r history begun run)));
     cause = stop_map (CameTo b.log c.log b.engine s) (CameTo a.log c.log a.engine s) b.log c.log a.log c.log b.faults c.faults a.faults c.faults s
         (rose_later 1 a.faults b.faults c.faults keeps.faults) (λ queues e. page-since queues a.log b.log c.log e keeps.later)
-        (λ e came. came_then a.log b.log c.log a.engine b.engine e s keeps.later first.events first.left keeps.network came) second.cause;
+        (λ e came. came_then a.log b.log c.log a.engine b.engine e s keeps.later events first.left keeps.network came) second.cause;
   }
 
-  -- all was shown, and nothing is left
-  pub runs_out : (Whole : List Event → Type 0) → Whole first.events → AllDone b.engine.engine.flow → IsRestOf (known a.log) (known b.log) a.engine b.engine first.events
-      → ((r : Replay) (history : List Event) (begun : ℕ) → Tells (known b.log) → IsRun r (known b.log) b.engine history begun b.steps → ShownAll r b.engine history begun b.steps)
-      → RunsOut Whole a b
-  runs_out Whole whole done rest all = record {
-    events = first.events;
+  -- what they showed is lost on its way out
+  pub fails_lost : (before now : ℕ) (s : Status) → IsLost before now s → FailsOn n a b events s
+  fails_lost before now s lost = record {
+    mid = known b.log;
+    tells = λ told. told;
+    last = b.engine;
     there = first.there;
-    shown = whole;
-    sound = first.sound;
     left = first.left;
-    done = done;
-    rest = rest;
-    all = λ told r history begun run. all r (history ++ first.events) begun told (first.goes r history begun run);
+    stops = λ told r history begun run.
+        let on = first.runs r history begun run in
+        record {
+          first = begins_run r (known b.log) b.engine (history ++ events) begun b.steps on told;
+          work = (shown-so-far b.engine r (known b.log) (history ++ events) begun b.steps told on).work;
+          unchanged = λ is-honest. lost_unchanged before now s lost;
+          garbled = lost_garbled before now s lost;
+          too_much = not_too_much (2 ^ 62 ≤ turns_in r) before now s lost;
+        };
+    cause = lost_stop (CameTo a.log b.log a.engine s) a.log b.log a.faults b.faults before now s lost;
   }
 
 -- one step, of an engine that showed nothing before it
@@ -144,33 +110,16 @@ module _ (a b : RunState) (cleared shown : List Event) (none : cleared ≡ []) w
   run_here : (r : Replay) (history : List Event) (begun : ℕ) → IsRun r (known a.log) a.engine history begun a.steps → IsRun r (known a.log) a.engine (history ++ cleared) begun a.steps
   run_here r history begun run = subst (λ xs. IsRun r (known a.log) a.engine xs begun a.steps) (sym (ap (λ xs. history ++ xs) none ∙ append-nil history)) run
 
-  module _ (pick : Pick) (p : Progress) (on : RunsOn pick (stage_at a cleared) (stage_at b shown) a.engine b.engine p) where
-    lines_here : AllByRecursion (IsEventAt a.engine.network) shown
-    lines_here = on.shows (subst (AllByRecursion (IsEventAt a.engine.network)) (sym none) tt)
-
-    -- each of its events is one of the network
-    pub step_lines : b.engine.network ≡ a.engine.network → AllByRecursion (IsEventAt b.engine.network) shown
-    step_lines same = subst (λ n. AllByRecursion (IsEventAt n) shown) (sym same) lines_here
-
-    pub turn_on : (Shown : List Event → Type 0) → Shown shown → TurnsOn Shown a b
-    turn_on Shown is-shown = record {
-      events = shown;
-      there = lines_here;
-      shown = is-shown;
-      left = subst (λ xs. Stepped actors (known a.log) (known b.log) a.engine.engine.flow b.engine.engine.flow xs shown) none on.step.train.moves.stepped;
-      goes = λ r history begun run. on.run r history begun (run_here r history begun run);
-      sound = on.sound;
-    }
-
-    -- what it showed is lost on its way out
-    pub turn_lost : (Begun : List Event → Type 0) → Begun shown → (lost mid lost' : ℕ) (s : Status) → lost ≤ mid → IsLost mid lost' s → TurnFails Begun lost lost' a b s
-    turn_lost Begun begun lost mid lost' s le is-lost =
-        let these : TurnsOn (λ xs. xs ≡ shown) a b = turn_on (λ xs. xs ≡ shown) refl in
-        turns_lost (λ xs. xs ≡ shown) a b these Begun (subst Begun (sym these.shown) begun) lost mid lost' s le is-lost
+  pub goes_here : (pick : Pick) (p : Progress) → RunsOn pick (stage_at a cleared) (stage_at b shown) a.engine b.engine p → GoesOn a.engine.network a b shown
+  goes_here pick p on = record {
+    there = on.shows (subst (AllByRecursion (IsEventAt a.engine.network)) (sym none) tt);
+    left = subst (λ xs. Stepped actors (known a.log) (known b.log) a.engine.engine.flow b.engine.engine.flow xs shown) none on.step.train.moves.stepped;
+    runs = λ r history begun run. on.run r history begun (run_here r history begun run);
+    sound = on.sound;
+  }
 
   -- it failed
-  module _ (e : RunErr) (failed : RunFails (stage_at a cleared) (stage_at b shown) a.engine b.engine e) (keeps : KeepsRun a b)
-      (sound : IsSoundEngine a.engine) (together : Together a.engine.engine.flow.queues (known a.log)) where
+  module _ (e : RunErr) (failed : RunFails (stage_at a cleared) (stage_at b shown) a.engine b.engine e) (keeps : KeepsRun a b) (can : IsDrivable (known a.log) a.engine) where
     step_stops : Tells (known b.log) → (r : Replay) (history : List Event) (begun : ℕ) → IsRun r (known a.log) a.engine history begun a.steps
         → StoppedWith a.log.honest r (history ++ []) begun b.steps (status_of e)
     step_stops told r history begun run =
@@ -183,20 +132,68 @@ module _ (a b : RunState) (cleared shown : List Event) (none : cleared ≡ []) w
           too_much = λ much. halt.turns (step_much e much);
         }
 
-    fails_so : (Begun : List Event → Type 0) → Begun [] → (lost lost' : ℕ) → TurnFails Begun lost lost' a b (status_of e)
-    fails_so Begun begun lost lost' = record {
+    pub fails_here : FailsOn a.engine.network a b [] (status_of e)
+    fails_here = record {
       mid = known a.log;
       tells = keeps.later.known;
       last = a.engine;
-      events = [];
       there = tt;
-      begun = begun;
-      left = stepped_none (known a.log) a.engine sound together;
+      left = (goes_none a can).left;
       stops = step_stops;
-      cut = step_cut lost lost' e;
       cause = step_cause (CameTo a.log b.log a.engine (status_of e)) b.engine a.log b.log a.faults b.faults e
           (came_at_once a.log b.log a.engine b.engine cleared none e keeps.network failed.step.feed) failed.failed failed.step.cause;
     }
 
-    pub turn_fails : (Begun : List Event → Type 0) → Begun [] → (lost lost' : ℕ) (s : Status) → s ≡ status_of e → TurnFails Begun lost lost' a b s
-    turn_fails Begun begun lost lost' s is = subst (TurnFails Begun lost lost' a b) (sym is) (fails_so Begun begun lost lost')
+-- the same before an audience
+module _ {A O : Type 0} (m : Ghosts A O) where
+  pub turns_none : (a : Moment A O) → CanTurn m a → TurnsOn m a.run.engine.network a a
+  turns_none a can = record {
+    events = [];
+    goes = goes_none a.run can.engine;
+    shown = λ from history was. subst (m.shown from a.audience a.out a.run.engine.network) (sym (append-nil history)) was;
+    ready = can.audience;
+  }
+
+  module _ (n : Network) (a b : Moment A O) where
+    pub turn_on : (events : List Event) → GoesOn n a.run b.run events
+        → ((from : O) (history : List Event) → m.shown from a.audience a.out n history → m.shown from b.audience b.out n (history ++ events)) → m.ready b.audience n → TurnsOn m n a b
+    turn_on events goes shown ready = record { events = events; goes = goes; shown = shown; ready = ready }
+
+    -- what was shown is lost on its way out
+    pub turn_lost : (events : List Event) → GoesOn n a.run b.run events → (s : Status)
+        → LosesRest ((from : O) (history : List Event) → m.shown from a.audience a.out n history → m.begun from b.out n (history ++ events)) (m.faults a.out) (m.faults b.out) s → TurnFails m n a b s
+    turn_lost events goes s loses = record {
+      events = events;
+      fails = fails_lost n a.run b.run events goes (m.faults a.out) (m.faults b.out) s loses.lost;
+      begun = loses.begun;
+      cut = lost_cut (m.faults a.out) (m.faults b.out) s loses.lost;
+    }
+
+    module _ (first : TurnsOn m n a b) (c : Moment A O) where
+      pub turns_then : TurnsOn m n b c → TurnsOn m n a c
+      turns_then second = record {
+        events = first.events ++ second.events;
+        goes = goes_then n a.run b.run first.events first.goes c.run second.events second.goes;
+        shown = λ from history was. subst (m.shown from c.audience c.out n) (append_assoc history first.events second.events)
+            (second.shown from (history ++ first.events) (first.shown from history was));
+        ready = second.ready;
+      }
+
+      pub turns_fail : KeepsRun a.run b.run → m.faults a.out ≤ m.faults b.out → (s : Status) → TurnFails m n b c s → TurnFails m n a c s
+      turns_fail keeps later s second = record {
+        events = first.events ++ second.events;
+        fails = fails_then n a.run b.run first.events first.goes keeps c.run second.events s second.fails;
+        begun = λ from history was. subst (m.begun from c.out n) (append_assoc history first.events second.events)
+            (second.begun from (history ++ first.events) (first.shown from history was));
+        cut = cut_later (m.faults a.out) (m.faults b.out) (m.faults c.out) s later second.cut;
+      }
+
+  -- the engine failed, and nothing was shown
+  pub turn_fails : (n : Network) (a : Moment A O) (b : RunState) (e : RunErr) → FailsOn n a.run b [] (status_of e)
+      → ((from : O) (history : List Event) → m.shown from a.audience a.out n history → m.begun from a.out n history) → (s : Status) → s ≡ status_of e → TurnFails m n a (record a { run = b }) s
+  turn_fails n a b e fails begins s is = subst (TurnFails m n a (record a { run = b })) (sym is) (record {
+    events = [];
+    fails = fails;
+    begun = λ from history was. subst (m.begun from a.out n) (sym (append-nil history)) (begins from history was);
+    cut = step_cut (m.faults a.out) (m.faults a.out) e;
+  })

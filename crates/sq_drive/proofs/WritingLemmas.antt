@@ -1,11 +1,12 @@
 -- Text that is written piece by piece.
 use Rattle.std.proofs.Common.{◌≡◌, ℕ, ◌+◌, ◌<◌, List, [], ◌++◌, length, take, drop, get_or, refl, ap, sym, ◌∙◌, subst, append_assoc, append-nil, Option, None, Some}
-use Rattle.std.specs.Prelude.{Result, Ok, Err, OnOk, OnErr}
+use Rattle.std.specs.Prelude.{Result, Ok, Err, OnOk, IfErr}
 use Rattle.std.specs.List.{flat_map}
 use Rattle.sq_outside.specs.Sinks.{AppendsPrefix, appended}
 use Rattle.sq_outside.proofs.SinkLemmas.{appended-append}
 use Rattle.sq_lines.proofs.PairLemmas.{text-more, text-rest}
-use Rattle.sq_drive.specs.Writing.{Moves}
+use Rattle.sq_status.specs.declared.Status.{Status}
+use Rattle.sq_drive.specs.Writing.{LosesRest, Moves}
 
 pub moves-then : (before mid now : Option (List ℕ)) (waited waits later more next : List ℕ) → Moves before waited mid waits more → Moves mid waits now later next
     → Moves before waited now later (more ++ next)
@@ -41,9 +42,10 @@ pub on_ok : {T E P Q : Type 0} (r : Result T E) → OnOk r P → (P → Q) → O
 on_ok (Ok x) p f = f p
 on_ok (Err e) p f = tt
 
-pub on_err : {T E P Q : Type 0} (r : Result T E) → OnErr r P → (P → Q) → OnErr r Q
-on_err (Ok x) p f = tt
-on_err (Err e) p f = f p
+-- of what is lost on its way less went out, too
+pub loses_map : {T P Q : Type 0} (before now : ℕ) (r : Result T Status) → IfErr r (LosesRest P before now) → (P → Q) → IfErr r (LosesRest Q before now)
+loses_map before now (Ok x) lost f = tt
+loses_map before now (Err s) lost f = record { begun = f lost.begun; lost = lost.lost }
 
 pub on_ok_any : {T E P : Type 0} (r : Result T E) → P → OnOk r P
 on_ok_any (Ok x) p = p

@@ -93,7 +93,7 @@ pub record HasEnded (was is : Option Pages) (from to : Engine) : Type 0 where
   pub sound : IsSoundEngine to
   pub done : AllDone to.engine.flow
 
--- these events show exactly what was left of an engine that came to its end. Its plans over every disk; where the disk is known, at every
+-- these events show exactly what was pending of an engine that came to its end. Its plans over every disk; where the disk is known, at every
 -- table of levels that agrees with those of the closed epochs, the lines of each output and the decisions of each drop
 pub record IsRestOf (was is : Option Pages) (from to : Engine) (events : List Event) : Type 0 where
   pub plans : plans_of events ≡ plans_left from.engine.flow
@@ -110,7 +110,7 @@ pub record WritesRest (was is : Option Pages) (from to : Engine) (before now : O
   pub written : now ≡ appended before (history_text from.network events)
   pub rest : IsRestOf was is from to events
 
--- an engine stopped on its way: a beginning of the text of events was written that show the first of what was left of it, at the levels that
+-- an engine stopped on its way: a beginning of the text of events was written that show the first of what was pending of it, at the levels that
 -- the plans of all that arrives give
 pub record WritesFirst (was is : Option Pages) (from : Engine) (before now : Option (List ℕ)) : Type 0 where
   pub events : List Event

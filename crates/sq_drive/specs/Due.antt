@@ -35,7 +35,7 @@ pub record Answer : Type 0 where
 abbrev pub outputs_of : Network → List (Output × ℕ)
 outputs_of n = zip n.outputs (numbers_to (length n.outputs))
 
--- what is replayed, whatever the schedule
+-- what is replayed: the answer is deterministic, so no schedule stands in it
 abbrev pub replayed : AcceptedReplay → model.Replay
 replayed r = record { network = r.network; sources = r.sources; entries = r.entries; seed = r.seed }
 

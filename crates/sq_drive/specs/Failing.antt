@@ -36,20 +36,22 @@ pub record CameTo (was is : DiskLog) (from : Engine) (s : Status) (to : Engine) 
   pub named : status_of error ≡ s
   pub fails : FailsAt actors was is from.engine.flow to.engine.flow [] error
 
--- between these logs of the disk the engine came to fail, with the error of this status, from a new engine of what was accepted: one that
--- was fed nothing and has shown nothing, with as many frames as are named
+-- a new engine of what was accepted: one that was fed nothing and has shown nothing, with as many frames as are named
+pub record IsNewOf (r : AcceptedReplay) (engine : Engine) : Type 0 where
+  pub run : (pages : Option Pages) (steps : ℕ) → IsRun (replayed r) pages engine [] steps steps
+  pub framed : frames engine.engine.flow.queues ≡ r.frames
+
+-- between these logs of the disk the engine came to fail, with the error of this status, from a new engine of what was accepted
 pub record IsOfRun (was is : DiskLog) (r : AcceptedReplay) (s : Status) (engine : Engine) : Type 0 where
   pub begun : Engine
-  pub new : (pages : Option Pages) (steps : ℕ) → IsRun (replayed r) pages begun [] steps steps
-  pub framed : frames begun.engine.flow.queues ≡ r.frames
+  pub new : IsNewOf r begun
   pub came : CameTo was is begun s engine
 
--- between these logs of the disk an engine came, by steps that ended well, from a new engine of what was accepted, with as many frames as are
--- named; and each of its boxes was fed exactly the tuples that are still needed
+-- between these logs of the disk an engine came, by steps that ended well, from a new engine of what was accepted, and each of its boxes was
+-- fed exactly the tuples that are still needed
 pub record FedNeeded (was is : DiskLog) (r : AcceptedReplay) : Type 0 where
   pub begun : Engine
-  pub new : (pages : Option Pages) (steps : ℕ) → IsRun (replayed r) pages begun [] steps steps
-  pub framed : frames begun.engine.flow.queues ≡ r.frames
+  pub new : IsNewOf r begun
   pub engine : Engine
   pub went : WentOn (known was) (known is) begun engine
   pub needed : TookNeeded (replayed r) engine

@@ -1,3 +1,4 @@
+pub mod States
 pub mod Writing
 pub mod Driving
 pub mod Counting

@@ -2,7 +2,7 @@
 use Rattle.std.specs.Prelude.{◌≡◌, ⊤, ℕ, true}
 use Rattle.sq_outside.specs.Disks.{DiskLog}
 use Rattle.sq_outside.specs.Faults.{Rose}
-use Rattle.sq_paged.specs.declared.store.QueueErr.TheVariants as queue
+use Rattle.sq_bring.specs.declared.bring.QueueErr.TheVariants as queue
 use Rattle.sq_actor.specs.declared.actor.Actor.{Actor}
 use Rattle.sq_flow.specs.declared.flow.Flow.{Flow}
 use Rattle.sq_flow.specs.declared.errors.RunErr.{RunErr}

@@ -1,10 +1,10 @@
 // Who is shown the events of a run.
-ghost use Rattle.std.specs.Prelude.{◌≤◌, ℕ, ◌++◌, IfErr, List, OnErr, OnOk};
+ghost use Rattle.std.specs.Prelude.{◌≤◌, ℕ, ◌++◌, IfErr, List, OnOk};
 ghost use Rattle.std.specs.List.{AllByRecursion};
 ghost use Rattle.sq_net.specs.declared.Network.{Network};
 ghost use Rattle.sq_oper.specs.declared.outs.Event.{Event};
 ghost use Rattle.sq_drive.specs.Driving.{IsEventAt};
-ghost use Rattle.sq_drive.specs.Writing.{IsLost};
+ghost use Rattle.sq_drive.specs.Writing.{LosesRest};
 
 use sq_net::Network;
 use sq_oper::Event;
@@ -34,9 +34,8 @@ pub(crate) trait Audience<O> {
         ensures ready { OnOk result (ready self.new network.now) }
         ensures ok { OnOk result ((from : O) (before : List Event) → shown from self.old out.old network.now before
             → shown from self.new out.new network.now (before ++ events.now)) }
-        ensures err { OnErr result ((from : O) (before : List Event) → shown from self.old out.old network.now before
-            → begun from out.new network.now (before ++ events.now)) }
-        ensures lost { IfErr result (λ s. IsLost (faults out.old) (faults out.new) s) }
+        ensures err { IfErr result (LosesRest ((from : O) (before : List Event) → shown from self.old out.old network.now before
+            → begun from out.new network.now (before ++ events.now)) (faults out.old) (faults out.new)) }
         ensures later { faults out.old ≤ faults out.new };
 
     /// Nothing more is to be shown: what is held back goes out.
@@ -44,9 +43,8 @@ pub(crate) trait Audience<O> {
         ensures ready { (n : Network) → ready self.old n → OnOk result (ready self.new n) }
         ensures ok { OnOk result ((from : O) (n : Network) (events : List Event) → shown from self.old out.old n events
             → whole from self.new out.new n events) }
-        ensures err { OnErr result ((from : O) (n : Network) (events : List Event) → shown from self.old out.old n events
-            → begun from out.new n events) }
-        ensures lost { IfErr result (λ s. IsLost (faults out.old) (faults out.new) s) }
+        ensures err { IfErr result (LosesRest ((from : O) (n : Network) (events : List Event) → shown from self.old out.old n events
+            → begun from out.new n events) (faults out.old) (faults out.new)) }
         ensures later { faults out.old ≤ faults out.new };
 
     ghost begins: { (from : O) (held : Self) (now : O) (n : Network) (events : List Event) → shown from held now n events → begun from now n events };

@@ -1,16 +1,10 @@
 // A run, driven to its end before an audience.
-ghost use Rattle.std.specs.Prelude.{◌≡◌, ℕ, ◌≤◌, ◌<◌, [], IfErr, IfOk, List, None, OnErr, OnOk, length};
-ghost use Rattle.sq_model.specs.Shedding.{Replay};
-ghost use Rattle.sq_oper.specs.declared.outs.Event.{Event};
-ghost use Rattle.sq_pool.specs.Trust.{IsLater, Tells, known};
-ghost use Rattle.sq_queue.specs.Faces.{Together};
+ghost use Rattle.std.specs.Prelude.{◌≡◌, ℕ, ◌≤◌, ◌<◌, IfErr, IfOk, OnOk, length};
+ghost use Rattle.sq_pool.specs.Trust.{IsLater, known};
 ghost use Rattle.sq_flow.specs.Flows.{measure_of};
-ghost use Rattle.sq_core.specs.Runs.{IsRun, IsSoundEngine};
-ghost use Rattle.sq_drive.specs.Counting.{HasCounts, IsSummed};
-ghost use Rattle.sq_drive.specs.Driving.{IsCutShort, IsDriven, HasEnded, IsHalted, WritesFirst, WritesRest};
-ghost use Rattle.sq_drive.specs.Stopping.{StopHasCause, status_of};
-ghost use Rattle.sq_drive.specs.Failing.{CameTo};
-ghost use Rattle.sq_drive.specs.Turns.{IsBegunOn, IsShownOn, KeepsRun, RunsOut, TurnFails, TurnsOn, run_state};
+ghost use Rattle.sq_drive.specs.States.{disk_state, sink_state, unseen};
+ghost use Rattle.sq_drive.specs.Stopping.{status_of};
+ghost use Rattle.sq_drive.specs.Turns.{CanTurn, CountEnds, DriveEnds, DriveFails, IsDrivable, KeepsRun, RunsOut, TurnFails, TurnsOn, moment, run_state};
 
 use crate::audience::Audience;
 use crate::counting::{Counts, no_counts};
@@ -47,17 +41,14 @@ fn step_once<D: PageDisk, O, A: Audience<O>, L: Ledger>(
     out: &mut O,
     steps: &mut Steps<L>,
 ) -> Result<(), Status>
-    requires sound { IsSoundEngine engine.old }
-    requires together { Together engine.old.engine.flow.queues (known (D.log disk.old)) }
+    requires ready { CanTurn A.Audience (moment D.PageDisk engine.old disk.old steps.old audience.old out.old) }
     requires runs { 0 < length engine.old.engine.ready.list }
-    requires ready { A.ready audience.old engine.old.network }
     ensures keeps { KeepsRun (run_state D.PageDisk engine.old disk.old steps.old) (run_state D.PageDisk engine.new disk.new steps.new) }
     ensures falls { OnOk result (measure_of engine.new.engine.flow < measure_of engine.old.engine.flow) }
-    ensures ok { OnOk result (TurnsOn (IsShownOn A.shown engine.old.network audience.old out.old audience.new out.new)
-        (run_state D.PageDisk engine.old disk.old steps.old) (run_state D.PageDisk engine.new disk.new steps.new)) }
-    ensures err { IfErr result (TurnFails (IsBegunOn A.shown A.begun engine.old.network audience.old out.old out.new) (A.faults out.old) (A.faults out.new)
-        (run_state D.PageDisk engine.old disk.old steps.old) (run_state D.PageDisk engine.new disk.new steps.new)) }
-    ensures ready { OnOk result (A.ready audience.new engine.old.network) }
+    ensures ok { OnOk result (TurnsOn A.Audience engine.old.network
+        (moment D.PageDisk engine.old disk.old steps.old audience.old out.old) (moment D.PageDisk engine.new disk.new steps.new audience.new out.new)) }
+    ensures err { IfErr result (TurnFails A.Audience engine.old.network
+        (moment D.PageDisk engine.old disk.old steps.old audience.old out.old) (moment D.PageDisk engine.new disk.new steps.new audience.new out.new)) }
     ensures later { A.faults out.old ≤ A.faults out.new }
 {
     let pick = policy.next(engine.ready(), engine.waits());
@@ -78,16 +69,12 @@ fn step_to_end<D: PageDisk, O, A: Audience<O>, L: Ledger>(
     out: &mut O,
     steps: &mut Steps<L>,
 ) -> Result<(), Status>
-    requires sound { IsSoundEngine engine.old }
-    requires together { Together engine.old.engine.flow.queues (known (D.log disk.old)) }
-    requires ready { A.ready audience.old engine.old.network }
-    requires none { A.shown out.old audience.old out.old engine.old.network [] }
+    requires { CanTurn A.Audience (moment D.PageDisk engine.old disk.old steps.old audience.old out.old) }
     ensures keeps { KeepsRun (run_state D.PageDisk engine.old disk.old steps.old) (run_state D.PageDisk engine.new disk.new steps.new) }
-    ensures ok { OnOk result (RunsOut (A.whole out.old audience.new out.new engine.old.network)
-        (run_state D.PageDisk engine.old disk.old steps.old) (run_state D.PageDisk engine.new disk.new steps.new)) }
-    ensures err { IfErr result (TurnFails (A.begun out.old out.new engine.old.network) (A.faults out.old) (A.faults out.new)
-        (run_state D.PageDisk engine.old disk.old steps.old) (run_state D.PageDisk engine.new disk.new steps.new)) }
-    ensures ready { OnOk result (A.ready audience.new engine.old.network) }
+    ensures ok { OnOk result (RunsOut A.Audience
+        (moment D.PageDisk engine.old disk.old steps.old audience.old out.old) (moment D.PageDisk engine.new disk.new steps.new audience.new out.new)) }
+    ensures err { IfErr result (TurnFails A.Audience engine.old.network
+        (moment D.PageDisk engine.old disk.old steps.old audience.old out.old) (moment D.PageDisk engine.new disk.new steps.new audience.new out.new)) }
     ensures later { A.faults out.old ≤ A.faults out.new }
 {
     let mut events = Vec::new(alloc);
@@ -106,7 +93,7 @@ fn step_to_end<D: PageDisk, O, A: Audience<O>, L: Ledger>(
 }
 
 /// Steps an engine by the picks of a policy until it has ended, and writes the line of each event. Whatever the engine has shown
-/// before, where the disk is known this is exactly what is left of its answers, its records and its plans.
+/// before, where the disk is known this is exactly what is pending of its answers, its records and its plans.
 ///
 /// # Errors
 /// `DiskFault` where the disk had a fault, `Garbled`, `NotAPage` and `Strange` where a page came back that isn't the one which was
@@ -120,20 +107,11 @@ pub fn drive<D: PageDisk, S: Sink, L: Ledger>(
     out: &mut S,
     steps: &mut Steps<L>,
 ) -> Result<Engine, Status>
-    requires sound { IsSoundEngine engine }
-    requires together { Together engine.engine.flow.queues (known (D.log disk.old)) }
-    ensures ended { IfOk result (HasEnded (known (D.log disk.old)) (known (D.log disk.new)) engine) }
-    ensures ok { IfOk result (λ e. (r : Replay) (history : List Event) (begun : ℕ)
-        → Tells (known (D.log disk.new)) → IsRun r (known (D.log disk.old)) engine history begun steps.old
-        → IsDriven r history e (S.written out.old) (S.written out.new) begun steps.new) }
-    ensures err { IfErr result (λ s. (r : Replay) (history : List Event) (begun : ℕ)
-        → Tells (known (D.log disk.new)) → IsRun r (known (D.log disk.old)) engine history begun steps.old
-        → IsHalted (D.log disk.old).honest r history s (S.written out.old) (S.written out.new) begun steps.new) }
-    ensures rest { IfOk result (λ e. WritesRest (known (D.log disk.old)) (known (D.log disk.new)) engine e (S.written out.old) (S.written out.new)) }
-    ensures first { OnErr result (WritesFirst (known (D.log disk.old)) (known (D.log disk.new)) engine (S.written out.old) (S.written out.new)) }
-    ensures cut { IfErr result (IsCutShort (S.faults out.old) (S.faults out.new)) }
-    ensures stopped { IfErr result (λ s. StopHasCause (CameTo (D.log disk.old) (D.log disk.new) engine s)
-        (D.log disk.old) (D.log disk.new) (D.faults disk.old) (D.faults disk.new) s) }
+    requires { IsDrivable (known (D.log disk.old)) engine }
+    ensures ok { IfOk result (λ e. DriveEnds (run_state D.PageDisk engine disk.old steps.old) (run_state D.PageDisk e disk.new steps.new)
+        (S.written out.old) (S.written out.new)) }
+    ensures err { IfErr result (DriveFails (run_state D.PageDisk engine disk.old steps.old) (disk_state D.PageDisk disk.new) steps.new
+        (sink_state S.Sink out.old) (sink_state S.Sink out.new)) }
     ensures faults { (D.faults disk.old ≤ D.faults disk.new) × (S.faults out.old ≤ S.faults out.new) }
     ensures later { IsLater (D.log disk.old) (D.log disk.new) }
 {
@@ -160,17 +138,10 @@ pub fn count<D: PageDisk, L: Ledger>(
     disk: &mut D,
     steps: &mut Steps<L>,
 ) -> Result<(Engine, Counts), Status>
-    requires sound { IsSoundEngine engine }
-    requires together { Together engine.engine.flow.queues (known (D.log disk.old)) }
-    ensures ended { IfOk result (λ c. HasEnded (known (D.log disk.old)) (known (D.log disk.new)) engine c.0) }
-    ensures room { IfOk result (λ c. HasCounts (c.0).network c.1) }
-    ensures ok { IfOk result (λ c. (r : Replay) (begun : ℕ) → Tells (known (D.log disk.new)) → IsRun r (known (D.log disk.old)) engine [] begun steps.old
-        → IsSummed r c.0 c.1 begun steps.new) }
-    ensures err { IfErr result (λ s. (r : Replay) (begun : ℕ) → Tells (known (D.log disk.new)) → IsRun r (known (D.log disk.old)) engine [] begun steps.old
-        → IsHalted (D.log disk.old).honest r [] s None None begun steps.new) }
-    ensures cut { IfErr result (λ s. (before now : ℕ) → IsCutShort before now s) }
-    ensures stopped { IfErr result (λ s. StopHasCause (CameTo (D.log disk.old) (D.log disk.new) engine s)
-        (D.log disk.old) (D.log disk.new) (D.faults disk.old) (D.faults disk.new) s) }
+    requires { IsDrivable (known (D.log disk.old)) engine }
+    ensures ok { IfOk result (λ c. CountEnds (run_state D.PageDisk engine disk.old steps.old) (run_state D.PageDisk c.0 disk.new steps.new) c.1) }
+    ensures err { IfErr result (λ s. (before now : ℕ) → DriveFails (run_state D.PageDisk engine disk.old steps.old) (disk_state D.PageDisk disk.new) steps.new
+        (unseen before) (unseen now) s) }
     ensures faults { D.faults disk.old ≤ D.faults disk.new }
     ensures later { IsLater (D.log disk.old) (D.log disk.new) }
 {

@@ -1,10 +1,11 @@
 // The lines of a run's events, written to a sink in pieces.
-ghost use Rattle.std.specs.Prelude.{◌≡◌, ◌≤◌, ◌++◌, [], IfErr, OnErr, OnOk};
+ghost use Rattle.std.specs.Prelude.{◌≡◌, ◌≤◌, ◌++◌, [], IfErr, OnOk};
 ghost use Rattle.std.specs.List.{AllByRecursion};
 ghost use Rattle.std.proofs.Common.{sym};
 ghost use Rattle.sq_lines.specs.RunLines.{event_line};
 ghost use Rattle.sq_outside.specs.Sinks.{AppendsPrefix, appended};
-ghost use Rattle.sq_drive.specs.Writing.{IsLost, Moves};
+ghost use Rattle.sq_drive.specs.States.{sink_state};
+ghost use Rattle.sq_drive.specs.Writing.{Moves, WritesPart};
 ghost use Rattle.sq_drive.specs.Driving.{IsEventAt, history_text};
 
 use crate::audience::Audience;
@@ -45,8 +46,7 @@ fn show_event<S: Sink>(
 ) -> Result<(), Status>
     requires there { IsEventAt network.now event.now }
     ensures ok { OnOk result (Moves (S.written out.old) text.old.items (S.written out.new) text.new.items (event_line network.now event.now)) }
-    ensures err { OnErr result (AppendsPrefix (S.written out.old) (S.written out.new) (text.old.items ++ event_line network.now event.now)) }
-    ensures lost { IfErr result (λ s. IsLost (S.faults out.old) (S.faults out.new) s) }
+    ensures err { IfErr result (WritesPart (sink_state S.Sink out.old) (sink_state S.Sink out.new) (text.old.items ++ event_line network.now event.now)) }
     ensures later { S.faults out.old ≤ S.faults out.new }
 {
     match append_event_line(network, event, quoter, text) {
@@ -65,8 +65,7 @@ fn show_events<S: Sink>(
 ) -> Result<(), Status>
     requires there { AllByRecursion (IsEventAt network.now) events.now }
     ensures ok { OnOk result (Moves (S.written out.old) text.old.items (S.written out.new) text.new.items (history_text network.now events.now)) }
-    ensures err { OnErr result (AppendsPrefix (S.written out.old) (S.written out.new) (text.old.items ++ history_text network.now events.now)) }
-    ensures lost { IfErr result (λ s. IsLost (S.faults out.old) (S.faults out.new) s) }
+    ensures err { IfErr result (WritesPart (sink_state S.Sink out.old) (sink_state S.Sink out.new) (text.old.items ++ history_text network.now events.now)) }
     ensures later { S.faults out.old ≤ S.faults out.new }
 {
     'events: for event in events {

@@ -1,13 +1,14 @@
 // The summary of a run that counted its lines.
-ghost use Rattle.std.specs.Prelude.{◌≡◌, ◌≢◌, ◌≤◌, ◌++◌, IfErr, IfOk, OnErr, OnOk, decimal, length};
+ghost use Rattle.std.specs.Prelude.{◌≡◌, ◌≤◌, ◌++◌, IfErr, IfOk, OnOk, decimal, length};
 ghost use Rattle.std.specs.List.{flat_map, zip};
 ghost use Rattle.sq_words.specs.Lists.{numbers_to};
 ghost use Rattle.sq_net.specs.declared.Node.{Node};
-ghost use Rattle.sq_outside.specs.Sinks.{AppendsPrefix, appended};
+ghost use Rattle.sq_outside.specs.Sinks.{appended};
 ghost use Rattle.sq_core.specs.Runs.{IsSoundEngine};
 ghost use Rattle.sq_drive.specs.Counting.{HasCounts, engine_summary};
 ghost use Rattle.sq_drive.specs.Summaries.{count_line, drop_count_line, fed_count, late_count, output_count};
-ghost use Rattle.sq_drive.specs.Writing.{IsLost};
+ghost use Rattle.sq_drive.specs.States.{sink_state};
+ghost use Rattle.sq_drive.specs.Writing.{LosesWhole};
 
 use crate::counting::Counts;
 use crate::writing::{count_fed, count_late};
@@ -150,9 +151,7 @@ pub fn write_summary<S: Sink>(
     requires sound { IsSoundEngine engine.now }
     requires room { HasCounts engine.now.network counts.now }
     ensures ok { OnOk result (S.written out.new ≡ appended (S.written out.old) (engine_summary number rows engine.now counts.now)) }
-    ensures err { OnErr result (AppendsPrefix (S.written out.old) (S.written out.new) (engine_summary number rows engine.now counts.now)) }
-    ensures alone { IfErr result (λ s. s ≢ Status.SinkFault → S.written out.new ≡ S.written out.old) }
-    ensures lost { IfErr result (λ s. IsLost (S.faults out.old) (S.faults out.new) s) }
+    ensures err { IfErr result (LosesWhole (sink_state S.Sink out.old) (sink_state S.Sink out.new) (engine_summary number rows engine.now counts.now)) }
     ensures later { S.faults out.old ≤ S.faults out.new }
 {
     let text = match summary(alloc, number, rows, engine, counts) {

@@ -1,10 +1,11 @@
 // Text on its way to the output, in pieces, and the lines at the end of a run.
-ghost use Rattle.std.specs.Prelude.{◌≡◌, ◌≤◌, ◌++◌, [], IfErr, IfOk, OnErr, OnOk, length, map};
+ghost use Rattle.std.specs.Prelude.{◌≡◌, ◌≤◌, ◌++◌, [], IfErr, IfOk, OnOk, length, map};
 ghost use Rattle.sq_words.specs.Lists.{numbers_to};
 ghost use Rattle.sq_net.specs.SoundNetworks.{IsSound};
-ghost use Rattle.sq_outside.specs.Sinks.{AppendsPrefix, appended};
+ghost use Rattle.sq_outside.specs.Sinks.{appended};
 ghost use Rattle.sq_core.specs.Runs.{IsSoundEngine, fed_at, late_at_seat};
-ghost use Rattle.sq_drive.specs.Writing.{IsLost, Moves};
+ghost use Rattle.sq_drive.specs.States.{sink_state};
+ghost use Rattle.sq_drive.specs.Writing.{Moves, WritesPart};
 ghost use Rattle.sq_drive.specs.Driving.{ends_text};
 
 use sq_core::Engine;
@@ -21,8 +22,7 @@ const PIECE: usize = 65_536;
 pub(crate) fn send<S: Sink>(text: &mut Vec<u8>, out: &mut S) -> Result<(), Status>
     ensures ok { OnOk result (Moves (S.written out.old) text.old.items (S.written out.new) text.new.items []) }
     ensures none_waits { OnOk result (text.new.items ≡ []) }
-    ensures err { OnErr result (AppendsPrefix (S.written out.old) (S.written out.new) text.old.items) }
-    ensures lost { IfErr result (λ s. IsLost (S.faults out.old) (S.faults out.new) s) }
+    ensures err { IfErr result (WritesPart (sink_state S.Sink out.old) (sink_state S.Sink out.new) text.old.items) }
     ensures later { S.faults out.old ≤ S.faults out.new }
 {
     match write_all(out, text.as_slice()) {
@@ -37,8 +37,7 @@ pub(crate) fn send<S: Sink>(text: &mut Vec<u8>, out: &mut S) -> Result<(), Statu
 /// Writes what waits, where it is enough for a piece.
 pub(crate) fn send_piece<S: Sink>(text: &mut Vec<u8>, out: &mut S) -> Result<(), Status>
     ensures ok { OnOk result (Moves (S.written out.old) text.old.items (S.written out.new) text.new.items []) }
-    ensures err { OnErr result (AppendsPrefix (S.written out.old) (S.written out.new) text.old.items) }
-    ensures lost { IfErr result (λ s. IsLost (S.faults out.old) (S.faults out.new) s) }
+    ensures err { IfErr result (WritesPart (sink_state S.Sink out.old) (sink_state S.Sink out.new) text.old.items) }
     ensures later { S.faults out.old ≤ S.faults out.new }
 {
     if text.len() < PIECE {
@@ -106,8 +105,7 @@ pub fn write_ends<S: Sink>(
     requires sound { IsSoundEngine engine.now }
     requires first { first ≤ length engine.now.network.boxes }
     ensures ok { OnOk result (S.written out.new ≡ appended (S.written out.old) (ends_text first engine.now)) }
-    ensures err { OnErr result (AppendsPrefix (S.written out.old) (S.written out.new) (ends_text first engine.now)) }
-    ensures lost { IfErr result (λ s. IsLost (S.faults out.old) (S.faults out.new) s) }
+    ensures err { IfErr result (WritesPart (sink_state S.Sink out.old) (sink_state S.Sink out.new) (ends_text first engine.now)) }
     ensures later { S.faults out.old ≤ S.faults out.new }
 {
     let mut text = Vec::new(alloc);

@@ -1,25 +1,26 @@
 -- What a step feeds from each arc and what it leaves, and that nothing is left of an arc of an actor that is fed nothing more.
-use Rattle.std.proofs.Common.{◌≡◌, ◌≢◌, ℕ, zero, suc, ◌+◌, ◌<◌, eqb, Bool, true, false, ◌||◌, List, [], ◌∷◌, ◌++◌, length, Some, refl, ap, sym, ◌∙◌, subst, append_assoc, arith, inl, inr}
+use Rattle.std.proofs.Common.{◌≡◌, ◌≢◌, ℕ, zero, suc, ◌+◌, ◌<◌, eqb, Bool, true, false, List, [], ◌∷◌, ◌++◌, length, Some, refl, ap, sym, ◌∙◌, subst, append_assoc, arith, inl, inr}
 use Rattle.std.specs.Prelude.{slice_get, map, if◌then◌else◌}
-use Rattle.std.proofs.lemmas.Bool.{cases_lt}
+use Rattle.std.proofs.lemmas.Bool.{cases_lt, or_right}
 use Rattle.sq_item.specs.Things.{Thing}
 use Rattle.sq_oper.specs.declared.outs.Decision.{Decision}
 use Rattle.sq_oper.specs.Entries.{Entry, at_port}
 use Rattle.sq_oper.specs.Order.{earlier, merge_under, merge_two, merge_from}
-use Rattle.sq_left.specs.Remainder.{Net, Holding, coming, left, is_known_actor, Facts}
+use Rattle.sq_left.specs.Remainder.{Net, Holding, Each, coming, left, is_known_actor, Facts}
 use Rattle.sq_left.proofs.Conserve.{Kept, ended-none}
 use Rattle.sq_left.proofs.ActorSteps.{Moves, left-moved}
 use Rattle.sq_flow.specs.declared.wires.Wires.{Wires}
 use Rattle.sq_flow.specs.Wiring.{net_of, arcs_read, IsShaped}
 use Rattle.sq_words.proofs.Numbers.{eqb_true}
 
-known-replay : (net : Net) (order : List ℕ) → is_known_actor net order net.replay ≡ true
+pub known-replay : (net : Net) (order : List ℕ) → is_known_actor net order net.replay ≡ true
 known-replay net [] = eqb_true net.replay net.replay refl
-known-replay net (last ∷ earlier) = or-true (eqb net.replay last) (known-replay net earlier)
-  where
-    or-true : (a : Bool) {b : Bool} → b ≡ true → (a || b) ≡ true
-    or-true true h = refl
-    or-true false h = h
+known-replay net (last ∷ earlier) = or_right (eqb net.replay last) (is_known_actor net earlier net.replay) (known-replay net earlier)
+
+pub each-at : (P : ℕ → Type 0) (xs : List ℕ) (i x : ℕ) → Each P xs → slice_get xs i ≡ Some x → P x
+each-at P [] i x h is = cc is
+each-at P (y ∷ xs) zero x h is = let same : y ≡ x = cc is in subst P same h.0
+each-at P (y ∷ xs) (suc i) x h is = each-at P xs i x h.1 is
 
 module _ (wires : Wires) (ops : ℕ) (shaped : IsShaped wires ops) where
   abbrev net : Net

@@ -1,17 +1,17 @@
 -- Why steps fail.
-use Rattle.std.proofs.Common.{◌≡◌, ◌≢◌, ℕ, ◌≤◌, ◌⊎◌, inl, inr, Bool, true, Option, Some, refl, sym, subst}
+use Rattle.std.proofs.Common.{◌≡◌, ◌≢◌, ℕ, ◌≤◌, ◌⊎◌, inl, inr, Bool, true, Option, Some, le_refl, le_trans, refl, sym, subst}
 use Rattle.std.specs.Prelude.{◌+◌, ◌^◌, length, slice_get}
 use Rattle.sq_item.specs.Things.{spread}
 use Rattle.sq_item.specs.declared.Item.{Item}
 use Rattle.sq_outside.specs.Disks.{DiskLog, Pages}
 use Rattle.sq_outside.specs.Faults.{Rose}
 use Rattle.sq_queue.specs.declared.Queues.{Queues}
-use Rattle.sq_paged.specs.declared.store.QueueErr.{QueueErr}
-use Rattle.sq_paged.specs.declared.store.QueueErr.TheVariants as queue
+use Rattle.sq_bring.specs.declared.bring.QueueErr.{QueueErr}
+use Rattle.sq_bring.specs.declared.bring.QueueErr.TheVariants as queue
 use Rattle.sq_pool.specs.Trust.{IsLater}
-use Rattle.sq_pool.proofs.TrustLemmas.{came-since}
+use Rattle.sq_pool.proofs.TrustLemmas.{came-since, IsLater-refl, IsLater-trans}
 use Rattle.sq_queue.specs.Faces.{IsRefusal}
-use Rattle.sq_paged.specs.KeptPages.{IsTold, NoMisfit}
+use Rattle.sq_bring.specs.Bringing.{IsTold, NoMisfit}
 use Rattle.sq_paged.proofs.CallLemmas.{rose-since}
 use Rattle.sq_oper.specs.declared.operator.Operator.{Ghosts}
 use Rattle.sq_flow.specs.declared.wires.Arc.{Arc}
@@ -22,7 +22,7 @@ use Rattle.sq_flow.specs.declared.errors.RunErr.TheVariants as error
 use Rattle.sq_flow.specs.Takes.{MayBeFed, NotChanged}
 use Rattle.sq_flow.specs.Wiring.{arcs_read}
 use Rattle.sq_flow.specs.Flows.{TooMuchOnly}
-use Rattle.sq_flow.specs.Causes.{of_queue, IsQueueCause, IsCauseIn, IsFeedCause, IsPageRefused, HasTaken}
+use Rattle.sq_flow.specs.Causes.{of_queue, IsQueueCause, FailsOver, LogGrows, IsCauseIn, IsFeedCause, IsPageRefused, HasTaken}
 use Rattle.std.proofs.lemmas.Bool.{false_from_ne_true}
 
 -- a page that was refused in a call was so in a longer one
@@ -55,6 +55,23 @@ queue-cause-since queues was mid is before between now (error.Strange arc item) 
 queue-cause-since queues was mid is before between now error.TooMuch later le h = h
 queue-cause-since queues was mid is before between now error.Memory later le h = h
 
+pub changed-since : (was now : Bool) (e : RunErr) → now ≡ was → NotChanged now e → NotChanged was e
+changed-since was now e same h = subst (λ (b : Bool). NotChanged b e) same h
+
+-- a call behind another
+pub grows-none : (log : DiskLog) (faults : ℕ) → LogGrows log log faults faults
+grows-none log faults = record { later = IsLater-refl log; faults = le_refl faults }
+
+pub grows-both : (was mid is : DiskLog) (before between now : ℕ) → LogGrows was mid before between → LogGrows mid is between now → LogGrows was is before now
+grows-both was mid is before between now a b = record { later = IsLater-trans was mid is a.later b.later; faults = le_trans a.faults b.faults }
+
+pub fails-since : (queues : Queues) (was mid is : DiskLog) (before between now : ℕ) (e : RunErr) → LogGrows was mid before between → FailsOver queues mid is between now e → FailsOver queues was is before now e
+fails-since queues was mid is before between now e grows h =
+    record {
+      cause = queue-cause-since queues was mid is before between now e grows.later grows.faults h.cause;
+      honest = λ told. changed-since was.honest mid.honest e grows.later.honest (h.honest told);
+    }
+
 pub cause-since : {O : Type 0} (flow : Flow O) (was mid is : DiskLog) (before between now : ℕ) (e : RunErr) → IsLater was mid → before ≤ between → IsCauseIn flow mid is between now e → IsCauseIn flow was is before now e
 cause-since flow was mid is before between now error.Disk later le h = rose-since before between now le h
 cause-since flow was mid is before between now (error.Garbled page kept got) later le h =
@@ -78,9 +95,6 @@ told-of honest queue.Disk told fits = tt
 told-of honest (queue.Garbled page kept got) told fits = false_from_ne_true honest told
 told-of honest (queue.NotAPage page bytes) told fits = absurd fits
 told-of honest queue.Memory told fits = tt
-
-pub changed-since : (was now : Bool) (e : RunErr) → now ≡ was → NotChanged now e → NotChanged was e
-changed-since was now e same h = subst (λ (b : Bool). NotChanged b e) same h
 
 -- the error of a step whose call over the queues failed
 pub cause-in : {O : Type 0} (flow : Flow O) (was is : DiskLog) (before now : ℕ) (e : RunErr) → IsQueueCause flow.queues was is before now e → IsCauseIn flow was is before now e

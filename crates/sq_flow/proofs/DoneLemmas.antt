@@ -1,11 +1,12 @@
 -- Where all are finished nothing is left; where some actor isn't, one is ready.
 use Rattle.std.proofs.Common.{◌≡◌, ◌≢◌, ℕ, zero, suc, ◌+◌, ◌<◌, ◌≤◌, eqb, Bool, true, false, ◌||◌, ◌⊎◌, inl, inr, IsTrue, List, [], ◌∷◌, ◌++◌, length, Some, None, refl, ap, sym, ◌∙◌, subst, arith}
+use Rattle.std.proofs.lemmas.Bool.{or_right}
 use Rattle.std.specs.Prelude.{slice_get, is_some}
 use Rattle.std.proofs.lemmas.Option.{slice_get_past}
 use Rattle.sq_item.specs.declared.Item.{Item}
 use Rattle.sq_oper.specs.declared.operator.Operator.{Ghosts}
 use Rattle.sq_oper.specs.Streams.{tuples_of, tuples_in}
-use Rattle.sq_left.specs.Remainder.{Net, Holding, left_by, inputs_by, coming, is_known_actor, Each, IsLaidOut}
+use Rattle.sq_left.specs.Remainder.{Net, Holding, Settled, left_by, inputs_by, coming, inputs, is_known_actor, IsLaidOut}
 use Rattle.sq_left.proofs.MergeLemmas.{eqb-no}
 use Rattle.sq_left.proofs.Conserve.{ended-none, ended-settled}
 use Rattle.sq_left.proofs.WorldSteps.{facts-at}
@@ -17,16 +18,11 @@ use Rattle.sq_flow.specs.Flows.{world_of, IsFlow, HoldsItems, lines_left, decisi
 use Rattle.sq_flow.specs.Readiness.{IsReady, stands}
 use Rattle.sq_flow.specs.declared.engine.Engine.{Engine}
 use Rattle.sq_flow.specs.Engines.{AllDone, IsEngine, seat_number}
-use Rattle.sq_flow.proofs.ArcLemmas.{giver-known, none-merged, front-none}
+use Rattle.sq_flow.proofs.ArcLemmas.{known-replay, each-at, giver-known, none-merged, front-none}
 use Rattle.sq_flow.proofs.ReadyLemmas.{place-next, place-within}
 use Rattle.sq_words.specs.Lists.{contains_number}
 use Rattle.std.proofs.lemmas.Map.Views.{exact_unsigned_eq}
 use Rattle.sq_words.proofs.Numbers.{eqb_true}
-
-Each-at : (P : ℕ → Type 0) (xs : List ℕ) (i x : ℕ) → Each P xs → slice_get xs i ≡ Some x → P x
-Each-at P [] i x h is = absurd (cc is)
-Each-at P (y ∷ xs) zero x h is = let same : y ≡ x = cc is in subst P same h.0
-Each-at P (y ∷ xs) (suc i) x h is = Each-at P xs i x h.1 is
 
 pub sums-agree : (f g : ℕ → ℕ) (n : ℕ) → ((k : ℕ) → k < n → f k ≡ g k) → sum_below f n ≡ sum_below g n
 sums-agree f g zero h = refl
@@ -57,14 +53,10 @@ module _ {O : Type 0} (m : Ghosts O) (e : Flow O) (flow : IsFlow m e) where
               cc (sym (ap (λ o. slice_get (numbers_in o) port) past) ∙ is)
   some-ready (last ∷ earlier) wired = before (some-ready earlier wired.2)
     where
-      or-right : (a b : Bool) → b ≡ true → (a || b) ≡ true
-      or-right true b h = refl
-      or-right false b h = h
-
       standing-of : ((actor : ℕ) → is_known_actor net earlier actor ≡ true → done actor ≡ true) → (port arc : ℕ) → slice_get (arcs_read e.wires last) port ≡ Some arc → stands (face e.queues arc) ≡ true
       standing-of all port arc is =
-          let k = Each-at (λ a. (a < net.size) × IsTrue (is_known_actor net earlier (net.from a))) (net.arcs last) port arc wired.1 is in
-          or-right (is_some (face e.queues arc).first) (face e.queues arc).ended (flow.ended arc k.0 ∙ all (net.from arc) k.1)
+          let k = each-at (λ a. (a < net.size) × IsTrue (is_known_actor net earlier (net.from a))) (net.arcs last) port arc wired.1 is in
+          or_right (is_some (face e.queues arc).first) (face e.queues arc).ended (flow.ended arc k.0 ∙ all (net.from arc) k.1)
 
       here : ((actor : ℕ) → is_known_actor net earlier actor ≡ true → done actor ≡ true) → (b : Bool) → done last ≡ b
           → ((actor : ℕ) → is_known_actor net (last ∷ earlier) actor ≡ true → done actor ≡ true) ⊎ ((actor : ℕ) × ((is_known_actor net (last ∷ earlier) actor ≡ true) × IsReady e actor))
@@ -79,25 +71,17 @@ module _ {O : Type 0} (m : Ghosts O) (e : Flow O) (flow : IsFlow m e) where
       before : ((actor : ℕ) → is_known_actor net earlier actor ≡ true → done actor ≡ true) ⊎ ((actor : ℕ) × ((is_known_actor net earlier actor ≡ true) × IsReady e actor))
           → ((actor : ℕ) → is_known_actor net (last ∷ earlier) actor ≡ true → done actor ≡ true) ⊎ ((actor : ℕ) × ((is_known_actor net (last ∷ earlier) actor ≡ true) × IsReady e actor))
       before (inl all) = here all (done last) refl
-      before (inr r) = inr (r.0, (or-right (eqb r.0 last) (is_known_actor net earlier r.0) r.1.0, r.1.1))
+      before (inr r) = inr (r.0, (or_right (eqb r.0 last) (is_known_actor net earlier r.0) r.1.0, r.1.1))
 
   -- as long as some actor isn't finished, one is ready
   pub one-ready : (other : ℕ) → other ≤ length e.seats.items → done other ≡ false → (actor : ℕ) × ((actor ≤ length e.seats.items) × IsReady e actor)
   one-ready other low open_now = by (some-ready e.wires.order.items flow.shaped.wired)
     where
-      replay-known : (order : List ℕ) → is_known_actor net order net.replay ≡ true
-      replay-known [] = eqb_true net.replay net.replay refl
-      replay-known (last ∷ earlier) = or (eqb net.replay last) (is_known_actor net earlier net.replay) (replay-known earlier)
-        where
-          or : (a b : Bool) → b ≡ true → (a || b) ≡ true
-          or true b h = refl
-          or false b h = h
-
       listed : is_known_actor net e.wires.order.items other ≡ true
       listed = at (eqb other net.replay) refl
         where
           at : (b : Bool) → eqb other net.replay ≡ b → is_known_actor net e.wires.order.items other ≡ true
-          at true t = subst (λ k. is_known_actor net e.wires.order.items k ≡ true) (sym (exact_unsigned_eq other net.replay t)) (replay-known e.wires.order.items)
+          at true t = subst (λ k. is_known_actor net e.wires.order.items k ≡ true) (sym (exact_unsigned_eq other net.replay t)) (known-replay net e.wires.order.items)
           at false t =
               let r = flow.shaped.replay_is in
               let ne : other ≢ net.replay = eqb-no other net.replay t in
@@ -115,42 +99,35 @@ module _ {O : Type 0} (m : Ghosts O) (e : Flow O) (flow : IsFlow m e) where
         ap tuples_in (ended-none net (world_of m table items e) e.wires.order.items holds.facts (e.wires.shown + output) 0 (flow.shaped.ordered (e.wires.shown + output) low)
         (all (e.wires.shown + output) (omega (arith, low))))
 
+    abbrev w : Holding
+    w = world_of m table items e
+
+    away : (actor : ℕ) → actor < length e.seats.items → actor ≢ net.replay
+    away actor low = let r = flow.shaped.replay_is in omega (arith, r, low)
+
+    settled : (actor : ℕ) → actor < length e.seats.items → Settled w actor (inputs net w e.wires.order.items actor)
+    settled actor low = ended-settled net w e.wires.order.items holds.facts actor (flow.shaped.ordered actor low) (away actor low) (all actor (omega (arith, low)))
+
     pub all-fed : (actor : ℕ) → actor < length e.seats.items → fed_at_last m table items e actor ≡ taken_at m (slice_get e.seats.items actor)
     all-fed actor low =
-        let r = flow.shaped.replay_is in
-        let away : actor ≢ net.replay = omega (arith, r, low) in
-        let settled = ended-settled net (world_of m table items e) e.wires.order.items holds.facts actor (flow.shaped.ordered actor low) away (all actor (omega (arith, low))) in
-        ap (λ fed. taken_at m (slice_get e.seats.items actor) + length (tuples_of fed)) settled.none ∙ zero-more (taken_at m (slice_get e.seats.items actor))
+        ap (λ fed. taken_at m (slice_get e.seats.items actor) + length (tuples_of fed)) (settled actor low).none ∙ zero-more (taken_at m (slice_get e.seats.items actor))
       where
         zero-more : (k : ℕ) → k + 0 ≡ k
         zero-more k = omega arith
 
     pub all-lost : (actor : ℕ) → actor < length e.seats.items → lost_at_last m table items e actor ≡ lost_at m (slice_get e.seats.items actor) []
-    all-lost actor low =
-        let r = flow.shaped.replay_is in
-        let away : actor ≢ net.replay = omega (arith, r, low) in
-        let settled = ended-settled net (world_of m table items e) e.wires.order.items holds.facts actor (flow.shaped.ordered actor low) away (all actor (omega (arith, low))) in
-        ap (lost_at m (slice_get e.seats.items actor)) settled.none
+    all-lost actor low = ap (lost_at m (slice_get e.seats.items actor)) (settled actor low).none
 
     pub all-decided : (actor : ℕ) → actor < length e.seats.items → decisions_left m table items e actor ≡ []
-    all-decided actor low =
-        let r = flow.shaped.replay_is in
-        let away : actor ≢ net.replay = omega (arith, r, low) in
-        (ended-settled net (world_of m table items e) e.wires.order.items holds.facts actor (flow.shaped.ordered actor low) away (all actor (omega (arith, low)))).decided
-
-    abbrev w : Holding
-    w = world_of m table items e
+    all-decided actor low = (settled actor low).decided
 
     -- a finished actor has taken all that stood on its arcs, and what gives one gives nothing more
     pub all-taken : (actor port arc : ℕ) → actor < length e.seats.items → slice_get (arcs_read e.wires actor) port ≡ Some arc → left_on m table items e arc ≡ []
     all-taken actor port arc low reads =
-        let r = flow.shaped.replay_is in
-        let away : actor ≢ net.replay = omega (arith, r, low) in
         let inside = flow.shaped.arcs_in actor port arc reads in
         let from = flow.shaped.from_in arc inside in
-        let settled = ended-settled net w e.wires.order.items holds.facts actor (flow.shaped.ordered actor low) away (all actor (omega (arith, low))) in
-        let at = facts-at net w e.wires.order.items flow.shaped.wired holds.facts actor (flow.shaped.ordered actor low) away in
-        let none : inputs_by net w at.coming_in actor ≡ [] = sym at.fed_is ∙ settled.none in
+        let at = facts-at net w e.wires.order.items flow.shaped.wired holds.facts actor (flow.shaped.ordered actor low) (away actor low) in
+        let none : inputs_by net w at.coming_in actor ≡ [] = sym at.fed_is ∙ (settled actor low).none in
         let queue = front-none (w.queue arc) (at.coming_in (net.from arc) (net.port arc)) (none-merged (left_by net w at.coming_in) (net.arcs actor) 0 port arc none reads) in
         ap (λ l. l ++ coming net w e.wires.order.items (net.from arc) (net.port arc)) queue
         ∙ ended-none net w e.wires.order.items holds.facts (net.from arc) (net.port arc) (giver-known e.wires (length e.seats.items) flow.shaped arc inside) (all (net.from arc) (omega (arith, from)))

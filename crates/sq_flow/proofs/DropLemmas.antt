@@ -9,16 +9,15 @@ use Rattle.sq_oper.specs.declared.operator.Operator.{Ghosts}
 use Rattle.sq_oper.specs.declared.outs.Decision.{Decision}
 use Rattle.sq_oper.specs.declared.outs.Event.{Event}
 use Rattle.sq_oper.specs.declared.outs.Event.TheVariants.{Dropped, Plan}
-use Rattle.sq_oper.specs.declared.tally.Moment.{Moment}
+use Rattle.sq_oper.specs.declared.tally.Position.{Position}
 use Rattle.sq_oper.specs.Entries.{Entry}
-use Rattle.sq_oper.specs.Order.{moment_after, after_all, InOrder, AllFit, IsFuture}
+use Rattle.sq_oper.specs.Order.{position_after, after_all, InOrder, AllFit, IsFuture}
 use Rattle.sq_flow.specs.declared.seats.Seat.{Seat}
 use Rattle.sq_flow.specs.declared.wires.Wires.{Wires}
 use Rattle.sq_flow.specs.Wiring.{IsOwn}
 use Rattle.sq_flow.specs.Seats.{holds_at, Owns}
-use Rattle.sq_flow.specs.Events.{lines_of, of_drop, drops_of, ShowsIn}
-use Rattle.sq_flow.specs.Plans.{plans_of}
-use Rattle.sq_flow.proofs.EventLemmas.{lines-append, plans-append, drops-append}
+use Rattle.sq_flow.specs.Events.{lines_of, of_drop, drops_of}
+use Rattle.sq_flow.proofs.EventLemmas.{lines-append, drops-append}
 use Rattle.std.proofs.lemmas.Map.Views.{exact_unsigned_eq}
 use Rattle.sq_words.proofs.Numbers.{eqb_true}
 
@@ -35,9 +34,6 @@ drops-drop w events d = drops-append w events (Dropped d ∷ []) ∙ ap (λ z. d
 
 pub lines-drop : (o : ℕ) (events : List Event) (d : Decision) → lines_of o (events ++ Dropped d ∷ []) ≡ lines_of o events
 lines-drop o events d = lines-append o events (Dropped d ∷ []) ∙ append-nil (lines_of o events)
-
-pub plans-drop : (events : List Event) (d : Decision) → plans_of (events ++ Dropped d ∷ []) ≡ plans_of events
-plans-drop events d = plans-append events (Dropped d ∷ []) ∙ append-nil (plans_of events)
 
 pub of-drop-append : (w : ℕ) (xs ys : List Decision) → of_drop w (xs ++ ys) ≡ of_drop w xs ++ of_drop w ys
 of-drop-append w [] ys = refl
@@ -82,15 +78,15 @@ own-front wires actor w ds left all front = by (eqb (wires.sheds + w) actor) ref
     by false h = subst (λ z. IsPrefixOf z left) (sym (of-own wires actor w ds all ∙ ap (λ b. cond b ds []) h)) (left, refl)
 
 -- a future behind what came
-order-both : (place : Moment) (xs ys : List Entry) → InOrder place xs → InOrder (after_all place xs) ys → InOrder place (xs ++ ys)
+order-both : (place : Position) (xs ys : List Entry) → InOrder place xs → InOrder (after_all place xs) ys → InOrder place (xs ++ ys)
 order-both place [] ys h k = k
-order-both place (x ∷ xs) ys h k = (h.0, order-both (moment_after place x) xs ys h.1 k)
+order-both place (x ∷ xs) ys h k = (h.0, order-both (position_after place x) xs ys h.1 k)
 
 fit-both : (marks : ℕ → Bool) (fits : ℕ → List Value → Bool) (xs ys : List Entry) → AllFit marks fits xs → AllFit marks fits ys → AllFit marks fits (xs ++ ys)
 fit-both marks fits [] ys h k = k
 fit-both marks fits (x ∷ xs) ys h k = (h.0, fit-both marks fits xs ys h.1 k)
 
-pub future-both : (marks : ℕ → Bool) (fits : ℕ → List Value → Bool) (place : Moment) (xs ys : List Entry) → IsFuture marks fits place xs → IsFuture marks fits (after_all place xs) ys → IsFuture marks fits place (xs ++ ys)
+pub future-both : (marks : ℕ → Bool) (fits : ℕ → List Value → Bool) (place : Position) (xs ys : List Entry) → IsFuture marks fits place xs → IsFuture marks fits (after_all place xs) ys → IsFuture marks fits place (xs ++ ys)
 future-both marks fits place xs ys h k = record { in_order = order-both place xs ys h.in_order k.in_order; fitting = fit-both marks fits xs ys h.fitting k.fitting }
 
 -- with more levels an operator owns no less
@@ -98,8 +94,3 @@ pub owns-later : {O : Type 0} (m : Ghosts O) (own : Decision → Type 0) (levels
     → (o : Option (Seat O)) → holds_at (Owns m own levels) o → holds_at (Owns m own levels') o
 owns-later m own levels levels' before None h = tt
 owns-later m own levels levels' before (Some s) h = λ running table agrees. h running table (before table agrees)
-
--- one decision more
-pub drop-more : (outputs drops : ℕ) (d : Decision) (events : List Event) → d.drop < drops → ShowsIn outputs drops events (events ++ Dropped d ∷ [])
-drop-more outputs drops d [] low all = (low, tt)
-drop-more outputs drops d (e ∷ es) low all = (all.0, drop-more outputs drops d es low all.1)

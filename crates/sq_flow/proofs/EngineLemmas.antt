@@ -1,5 +1,6 @@
 -- An engine after a step of one actor.
 use Rattle.std.proofs.Common.{◌≡◌, ◌≢◌, ℕ, ◌+◌, ◌<◌, ◌≤◌, eqb, ltb, leb, cond, Bool, true, false, not, ◌||◌, ◌&&◌, List, [], ◌∷◌, ◌++◌, length, get_or, refl, ap, sym, ◌∙◌, subst, arith}
+use Rattle.std.proofs.Math.Bool.{or-false, and-true, and-false}
 use Rattle.std.specs.List.{filter, range_with_len}
 use Rattle.std.proofs.lemmas.Bool.Decides.{nat_tests}
 use Rattle.sq_sched.specs.ReadyLists.{without_actor, AreActors, OnlyOnce}
@@ -82,20 +83,12 @@ module _ {O : Type 0} (e e' : Flow O) (shaped : IsShaped e.wires (length e.seats
       looked-at e' (without_actor actor before) (actor ∷ []) x
       ∙ ap (λ b. contains_number (without_actor actor before) x || ((b || false) && is_new e' (without_actor actor before) x)) (eqb-not actor x (λ h. ne (sym h)))
       ∙ or-false (contains_number (without_actor actor before) x) ∙ without-others actor before x ne
-    where
-      or-false : (b : Bool) → (b || false) ≡ b
-      or-false true = refl
-      or-false false = refl
 
   again-actor : contains_number again actor ≡ ready actor
   again-actor =
       looked-at e' (without_actor actor before) (actor ∷ []) actor
       ∙ ap (λ b. contains_number (without_actor actor before) actor || ((b || false) && is_new e' (without_actor actor before) actor)) (eqb_true actor actor refl)
       ∙ ap (λ b. b || (ready actor && not b)) gone ∙ and-true (ready actor)
-    where
-      and-true : (b : Bool) → (b && true) ≡ b
-      and-true true = refl
-      and-true false = refl
 
   exact-bool : (x : ℕ) → x ≤ length e.seats.items → contains_number after x ≡ ready x
   exact-bool x in' = looked-at e' again readers x ∙ by (eqb x actor) refl
@@ -139,10 +132,6 @@ module _ {O : Type 0} (e e' : Flow O) (shaped : IsShaped e.wires (length e.seats
       only false false true same = absurd (cc (same refl))
       only c false false same = refl
 
-      not-one : (r : Bool) → (r && false) ≡ false
-      not-one true = refl
-      not-one false = refl
-
       in-range : x ≤ length e.seats.items → contains_number (range_with_len 0 (length e'.seats.items + 1)) x ≡ true
       in-range in' = contains-range 0 (length e'.seats.items + 1) x ∙ grind (arith, nat_tests, seats, in')
 
@@ -158,7 +147,7 @@ module _ {O : Type 0} (e e' : Flow O) (shaped : IsShaped e.wires (length e.seats
       at in' true t =
           let same : x ≡ actor = exact_unsigned_eq x actor t in
           ap (λ c. contains_number readers x && (ready x && not c)) (ap (contains_number again) same ∙ again-actor ∙ ap ready (sym same)) ∙ never (ready x) (contains_number readers x)
-          ∙ sym (ap (λ c. ready x && not c) (ap (contains_number before) same ∙ listed) ∙ not-one (ready x))
+          ∙ sym (ap (λ c. ready x && not c) (ap (contains_number before) same ∙ listed) ∙ and-false (ready x))
       at in' false t =
           let ne : x ≢ actor = eqb-no x actor t in
           ap (λ c. contains_number readers x && (ready x && not c)) (again-other x ne) ∙ only (contains_number before x) (contains_number readers x) (ready x) (stays x in' ne)
@@ -177,10 +166,6 @@ module _ {O : Type 0} (e e' : Flow O) (shaped : IsShaped e.wires (length e.seats
       (climbs-same (filter (is_new e' again) readers) (newly_ready e' before) (climbs-filter (is_new e' again) readers readers-climb)
       (climbs-filter (is_new e' before) (range_with_len 0 (length e'.seats.items + 1)) (climbs-range 0 (length e'.seats.items + 1))) new-same)
       ∙ ap (λ b. (without_actor actor before ++ cond b (actor ∷ []) []) ++ newly_ready e' before) (ap (λ b. ready actor && not b) gone ∙ and-true (ready actor))
-    where
-      and-true : (b : Bool) → (b && true) ≡ b
-      and-true true = refl
-      and-true false = refl
 
   pub once-after : OnlyOnce after
   once-after = looked-once e' again readers (looked-once e' (without_actor actor before) (actor ∷ []) (once-without actor before once) ((λ y is. absurd (cc is)), tt)) readers-climb
@@ -296,10 +281,6 @@ module _ {O : Type 0} (m : Ghosts O) (a b : Engine O) (flow : IsFlow m a.flow) (
   first-exact x low =
       contains_filter (is_new a.flow []) (range_with_len 0 (length a.flow.seats.items + 1)) x ∙ ap (λ b. b && is_new a.flow [] x) (in-range x low)
       ∙ and-true (is_ready a.flow (seat_number (length a.flow.seats.items) x))
-    where
-      and-true : (b : Bool) → (b && true) ≡ b
-      and-true true = refl
-      and-true false = refl
 
   pub engine-first : IsEngine m b
   engine-first =

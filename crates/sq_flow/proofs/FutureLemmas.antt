@@ -8,7 +8,7 @@ use Rattle.sq_item.specs.declared.Item.{Item}
 use Rattle.sq_item.specs.declared.Mark.{Mark}
 use Rattle.sq_item.specs.SoundItems.{IsSoundItem}
 use Rattle.sq_item.specs.Things.{Thing, Content, Sign, Body, spread, spread_all, mark_part, body_part}
-use Rattle.sq_oper.specs.declared.tally.Moment.{Moment}
+use Rattle.sq_oper.specs.declared.tally.Position.{Position}
 use Rattle.sq_oper.specs.Entries.{Entry, at_port}
 use Rattle.sq_oper.specs.Order.{content_fits, AllFit, IsFuture}
 use Rattle.sq_oper.specs.Outflow.{given, ItemsSound, ThingsUpTo}
@@ -39,7 +39,7 @@ fit-weaker marks marks' fits fits' [] f g h = tt
 fit-weaker marks marks' fits fits' (e ∷ es) f g h =
     (load-weaker marks marks' fits fits' e.port e.thing.content (f e.port) (g e.port) h.0, fit-weaker marks marks' fits fits' es f g h.1)
 
-pub future-weaker : (marks marks' : ℕ → Bool) (fits fits' : ℕ → List Value → Bool) (place : Moment) (es : List Entry)
+pub future-weaker : (marks marks' : ℕ → Bool) (fits fits' : ℕ → List Value → Bool) (place : Position) (es : List Entry)
     → ((port : ℕ) → marks port ≡ true → marks' port ≡ true) → ((port : ℕ) (fields : List Value) → fits port fields ≡ true → fits' port fields ≡ true)
     → IsFuture marks fits place es → IsFuture marks' fits' place es
 future-weaker marks marks' fits fits' place es f g h = record { in_order = h.in_order; fitting = fit-weaker marks marks' fits fits' es f g h.fitting }
@@ -50,7 +50,7 @@ fit-port : (marks marks' : ℕ → Bool) (fits fits' : ℕ → List Value → Bo
 fit-port marks marks' fits fits' p [] f g h = tt
 fit-port marks marks' fits fits' p (x ∷ xs) f g h = (load-weaker marks marks' fits fits' p x.content f g h.0, fit-port marks marks' fits fits' p xs f g h.1)
 
-pub future-port : (marks marks' : ℕ → Bool) (fits fits' : ℕ → List Value → Bool) (place : Moment) (p : ℕ) (xs : List Thing)
+pub future-port : (marks marks' : ℕ → Bool) (fits fits' : ℕ → List Value → Bool) (place : Position) (p : ℕ) (xs : List Thing)
     → (marks p ≡ true → marks' p ≡ true) → ((fields : List Value) → fits p fields ≡ true → fits' p fields ≡ true)
     → IsFuture marks fits place (at_port p xs) → IsFuture marks' fits' place (at_port p xs)
 future-port marks marks' fits fits' place p xs f g h = record { in_order = h.in_order; fitting = fit-port marks marks' fits fits' p xs f g h.fitting }

@@ -1,5 +1,6 @@
 -- Lists of numbers: what stands in them, and that of two climbing lists of the same numbers both are one.
 use Rattle.std.proofs.Common.{◌≡◌, ℕ, zero, suc, ◌+◌, ◌<◌, ◌≤◌, eqb, ltb, leb, cond, Bool, true, false, ◌||◌, ◌&&◌, List, [], ◌∷◌, ◌++◌, length, get_or, take, map, refl, ap, sym, ◌∙◌, arith}
+use Rattle.std.proofs.lemmas.Bool.{or_right, or_from, or_parts}
 use Rattle.std.specs.List.{filter, range_with_len, list_all}
 use Rattle.std.specs.Prelude.{slice_get, Some}
 use Rattle.std.proofs.lemmas.Bool.Decides.{nat_tests}
@@ -7,7 +8,7 @@ use Rattle.sq_sched.specs.ReadyLists.{AreActors, OnlyOnce}
 use Rattle.sq_left.proofs.MergeLemmas.{eqb-no, eqb-not}
 use Rattle.sq_flow.specs.Wiring.{Climbs}
 use Rattle.sq_words.specs.Lists.{contains_number}
-use Rattle.sq_words.proofs.Bools.{and_true}
+use Rattle.sq_words.proofs.Bools.{and_true, and_first}
 use Rattle.std.proofs.lemmas.Map.Views.{exact_unsigned_eq}
 use Rattle.sq_words.proofs.Lists.{contains_append, contains_filter}
 use Rattle.sq_words.proofs.Numbers.{eqb_true}
@@ -36,12 +37,8 @@ pub climbs-filter : (p : ℕ → Bool) (xs : List ℕ) → Climbs xs → Climbs 
 climbs-filter p [] h = tt
 climbs-filter p (x ∷ xs) h = by (p x) (climbs-filter p xs h.1)
   where
-    left : (b c : Bool) → (b && c) ≡ true → b ≡ true
-    left true c k = refl
-    left false c k = k
-
     by : (kept : Bool) → Climbs (filter p xs) → Climbs (cond kept (x ∷ filter p xs) (filter p xs))
-    by true more = (λ y is. h.0 y (left (contains_number xs y) (p y) (sym (contains_filter p xs y) ∙ is)), more)
+    by true more = (λ y is. h.0 y (and_first (contains_number xs y) (p y) (sym (contains_filter p xs y) ∙ is)), more)
     by false more = more
 
 pub climbs-range : (from many : ℕ) → Climbs (range_with_len from many)
@@ -64,11 +61,7 @@ climbs-next (x ∷ xs) h = (later, climbs-next xs h.1)
 pub contains-at : (xs : List ℕ) (i x d : ℕ) → i < length xs → x ≡ get_or xs i d → contains_number xs x ≡ true
 contains-at [] i x d low is = absurd (omega arith)
 contains-at (y ∷ xs) zero x d low is = ap (λ b. b || contains_number xs x) (eqb_true y x (sym is))
-contains-at (y ∷ xs) (suc i) x d low is = right (eqb y x) (contains_number xs x) (contains-at xs i x d (omega arith) is)
-  where
-    right : (b c : Bool) → c ≡ true → (b || c) ≡ true
-    right true c h = refl
-    right false c h = h
+contains-at (y ∷ xs) (suc i) x d low is = or_right (eqb y x) (contains_number xs x) (contains-at xs i x d (omega arith) is)
 
 -- what stands in a climbing list stands nowhere before its place
 pub climbs-front : (xs : List ℕ) (i x : ℕ) → Climbs xs → i < length xs → x ≡ get_or xs i 0 → contains_number (take i xs) x ≡ false
@@ -121,16 +114,8 @@ once-climbs (x ∷ xs) h = (by (contains_number xs x) refl, once-climbs xs h.1)
 pub once-append : (xs ys : List ℕ) → OnlyOnce xs → OnlyOnce ys → ((n : ℕ) → contains_number ys n ≡ true → contains_number xs n ≡ false) → OnlyOnce (xs ++ ys)
 once-append [] ys h k apart = k
 once-append (x ∷ xs) ys h k apart =
-    (contains_append xs ys x ∙ neither (contains_number xs x) (contains_number ys x) h.0 (away (contains_number ys x) refl), once-append xs ys h.1 k (λ n is. right (eqb x n) (contains_number xs n) (apart n is)))
+    (contains_append xs ys x ∙ or_from (contains_number xs x) (contains_number ys x) h.0 (away (contains_number ys x) refl), once-append xs ys h.1 k (λ n is. (or_parts (eqb x n) (contains_number xs n) (apart n is)).1))
   where
-    neither : (b c : Bool) → b ≡ false → c ≡ false → (b || c) ≡ false
-    neither true c e f = e
-    neither false c e f = f
-
-    right : (b c : Bool) → (b || c) ≡ false → c ≡ false
-    right true c e = absurd (cc e)
-    right false c e = e
-
     away : (t : Bool) → contains_number ys x ≡ t → t ≡ false
     away false t = refl
     away true t = absurd (cc (apart x t, eqb_true x x refl))
@@ -149,15 +134,6 @@ all-agree p q (x ∷ xs) h = ap (λ b. b && list_all p xs) (h 0 x refl) ∙ ap (
 pub map-agree : (f g : ℕ → ℕ) (xs : List ℕ) → ((i x : ℕ) → slice_get xs i ≡ Some x → f x ≡ g x) → map f xs ≡ map g xs
 map-agree f g [] h = refl
 map-agree f g (x ∷ xs) h = ap (λ y. y ∷ map f xs) (h 0 x refl) ∙ ap (λ ys. g x ∷ ys) (map-agree f g xs (λ i y is. h (suc i) y is))
-
-pub all-weaker : (p q : ℕ → Bool) (xs : List ℕ) → ((i x : ℕ) → slice_get xs i ≡ Some x → p x ≡ true → q x ≡ true) → list_all p xs ≡ true → list_all q xs ≡ true
-all-weaker p q [] h all = refl
-all-weaker p q (x ∷ xs) h all = by (p x) (q x) all (h 0 x refl) (λ more. all-weaker p q xs (λ i y is. h (suc i) y is) more)
-  where
-    by : (b c : Bool) → (b && list_all p xs) ≡ true → (b ≡ true → c ≡ true) → (list_all p xs ≡ true → list_all q xs ≡ true) → (c && list_all q xs) ≡ true
-    by true true all here more = more all
-    by true false all here more = absurd (cc (here refl))
-    by false c all here more = absurd (cc all)
 
 pub all-at : (p : ℕ → Bool) (xs : List ℕ) → list_all p xs ≡ true → (i x : ℕ) → slice_get xs i ≡ Some x → p x ≡ true
 all-at p [] all i x is = absurd (cc is)

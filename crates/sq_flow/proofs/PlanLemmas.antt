@@ -1,5 +1,5 @@
 -- Plans: what was shown of them, and what a release leaves of them.
-use Rattle.std.proofs.Common.{◌≡◌, ◌≢◌, ℕ, zero, suc, ◌+◌, ◌-◌, ◌/◌, ◌≤◌, ◌<◌, max, eqb, cond, Bool, true, List, [], ◌∷◌, ◌++◌, map, length, set, replicate, Some, refl, ap, sym, ◌∙◌, subst, append-nil, mul_comm, le_trans, arith}
+use Rattle.std.proofs.Common.{◌≡◌, ◌≢◌, ℕ, zero, suc, ◌+◌, ◌-◌, ◌/◌, ◌≤◌, ◌<◌, max, eqb, cond, Bool, true, List, [], ◌∷◌, ◌++◌, map, length, set, replicate, Some, refl, ap, sym, ◌∙◌, subst, mul_comm, le_trans, arith}
 use Rattle.std.specs.Prelude.{slice_get, slice_index}
 use Rattle.std.specs.List.{flat_map, range_with_len, count_by}
 use Rattle.std.proofs.Math.Nat.{mul-div-le}
@@ -10,25 +10,13 @@ use Rattle.std.proofs.lemmas.List.Sums.{sum_by-cons}
 use Rattle.sq_value.specs.declared.Tuple.{Tuple}
 use Rattle.sq_words.specs.Lists.{max_by}
 use Rattle.sq_left.proofs.MergeLemmas.{eqb-not}
-use Rattle.sq_plan.specs.Flows.{AreCounts}
 use Rattle.sq_plan.specs.PlanRows.{is_quiet}
-use Rattle.sq_oper.specs.declared.outs.Event.{Event}
-use Rattle.sq_oper.specs.declared.outs.Event.TheVariants.{Plan}
 use Rattle.sq_replay.specs.RecordedTuples.{Recorded}
-use Rattle.sq_flow.specs.Events.{lines_of}
 use Rattle.sq_flow.specs.Flows.{tuples_to_come, RiseFrom}
-use Rattle.sq_flow.specs.Plans.{arrivals, last_arrival, add_counts, plans_of}
+use Rattle.sq_flow.specs.Plans.{arrivals, last_arrival, add_counts}
 use Rattle.sq_flow.specs.Sources.{BeginsNotBefore}
-use Rattle.sq_flow.proofs.EventLemmas.{lines-append, plans-append}
 use Rattle.sq_words.proofs.Ranges.{range_split}
 use Rattle.sq_words.proofs.Numbers.{eqb_true}
-
-pub plans-plan : (events : List Event) (epoch load capacity saved : ℕ) (fits : Bool)
-    → plans_of (events ++ Plan epoch load capacity saved fits ∷ []) ≡ plans_of events ++ record { epoch = epoch; load = load; capacity = capacity; saved = saved; fits = fits } ∷ []
-plans-plan events epoch load capacity saved fits = plans-append events (Plan epoch load capacity saved fits ∷ [])
-
-pub lines-plan : (o : ℕ) (events : List Event) (epoch load capacity saved : ℕ) (fits : Bool) → lines_of o (events ++ Plan epoch load capacity saved fits ∷ []) ≡ lines_of o events
-lines-plan o events epoch load capacity saved fits = lines-append o events (Plan epoch load capacity saved fits ∷ []) ∙ append-nil (lines_of o events)
 
 -- numbers
 pub div-low : (a b k : ℕ) → 0 < k → a ≤ b → a / k ≤ b / k
@@ -70,12 +58,12 @@ streams sources = map (λ tuples. tuples.items) sources
 count-cons : (p : Tuple → Bool) (x : Tuple) (xs : List Tuple) → count_by p (x ∷ xs) ≡ cond (p x) 1 0 + count_by p xs
 count-cons p x xs = sum_by-cons (λ y. cond (p y) 1 0) x xs
 
+none-add : (k : ℕ) → 0 + k ≡ k
+none-add k = omega arith
+
 pub add-zeros : (n : ℕ) (ys : List ℕ) → length ys ≡ n → add_counts (replicate n 0) ys ≡ ys
 add-zeros zero ys h = refl
 add-zeros (suc n) (y ∷ ys) h = ap (λ k. k ∷ add_counts (replicate n 0) ys) (none-add y) ∙ ap (λ l. y ∷ l) (add-zeros n ys (omega (arith, h)))
-  where
-    none-add : (k : ℕ) → 0 + k ≡ k
-    none-add k = omega arith
 add-zeros (suc n) [] h = absurd (omega (arith, h))
 
 pub zeros-more : (xs : List ℕ) (n : ℕ) → length xs ≡ n → add_counts xs (replicate n 0) ≡ xs
@@ -107,9 +95,6 @@ module _ (epoch e : ℕ) (pos : 0 < epoch) where
       ∙ ap (λ b. cond b 1 0 + count_by (λ y. eqb (y.time / epoch) e) xs) (eqb-not (x.time / epoch) e apart)
       ∙ none-add (count_by (λ y. eqb (y.time / epoch) e) xs)
       ∙ none-of x.time xs after rise.2
-    where
-      none-add : (k : ℕ) → 0 + k ≡ k
-      none-add k = omega arith
 
   pub none-arrive : (time : ℕ) (sources : List Recorded) → e < time / epoch → ((source : ℕ) → RiseFrom time (tuples_to_come (slice_get sources source)))
       → arrivals epoch (streams sources) e ≡ replicate (length sources) 0
@@ -132,9 +117,6 @@ module _ (epoch : ℕ) (v more : Recorded) (x : Tuple) (front : v.items ≡ x �
       (sym (ap (λ (d : Recorded). count_by (λ y. eqb (y.time / epoch) e) d.items) same ∙ took e
       ∙ ap (λ b. cond b 1 0 + count_by (λ y. eqb (y.time / epoch) e) more.items) (eqb-not (x.time / epoch) e apart)
       ∙ none-add (count_by (λ y. eqb (y.time / epoch) e) more.items)))
-    where
-      none-add : (k : ℕ) → 0 + k ≡ k
-      none-add k = omega arith
   arrivals-other e (s ∷ sources) (suc port) is apart = ap (λ l. count_by (λ y. eqb (y.time / epoch) e) s.items ∷ l) (arrivals-other e sources port is apart)
 
   -- it is counted where it was to arrive
@@ -171,7 +153,3 @@ module _ (epoch : ℕ) (v more : Recorded) (x : Tuple) (front : v.items ≡ x �
     where
       turn : (a b c : ℕ) → max a (max b c) ≡ max b (max a c)
       turn a b c = omega arith
-
-pub few-each : (counts : List ℕ) → ((k : ℕ) → slice_index counts k ≤ 1000000) → AreCounts counts
-few-each [] h = tt
-few-each (c ∷ counts) h = (h 0, few-each counts (λ k. h (suc k)))

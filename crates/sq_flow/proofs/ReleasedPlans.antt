@@ -16,7 +16,7 @@ use Rattle.sq_oper.specs.Streams.{IsSoundTuple}
 use Rattle.sq_queue.specs.declared.Queues.{Queues}
 use Rattle.sq_replay.specs.RecordedTuples.{Recorded}
 use Rattle.sq_flow.specs.declared.flow.Flow.{Flow}
-use Rattle.sq_flow.specs.Events.{lines_of, drops_of, ShowsIn}
+use Rattle.sq_flow.specs.Closes.{ClosesSome, ClosesAll}
 use Rattle.sq_flow.specs.Flows.{IsFlow, RiseFrom, tuples_to_come, to_release}
 use Rattle.sq_flow.specs.Plans.{arrivals, last_arrival, add_counts, counts_of, IsPlanned, plans_left, plans_of, PlansPrefix}
 use Rattle.sq_flow.specs.Sources.{BeginsLeast, IsNextSource}
@@ -25,19 +25,10 @@ use Rattle.std.proofs.lemmas.Map.Views.{exact_unsigned_eq}
 use Rattle.sq_words.proofs.Lists.{zeros_at}
 use Rattle.sq_words.proofs.Numbers.{eqb_true}
 
--- what was closed before a tuple of this epoch, and what that showed
+-- all epochs before this one were closed, and the plan that follows was shown
 pub record ClosedBefore (planner planner' : Setting) (levels levels' : LevelTable) (before after : List ℕ) (next : ℕ) (events events' : List Event) : Type 0 where
-  pub same : planner' ≡ planner
-  pub epoch : levels'.epoch ≡ levels.epoch
-  pub closed : levels'.closed ≡ next + 1
-  pub keeps : (x w : ℕ) → x < levels.closed → level_of levels' x w ≡ level_of levels x w
-  pub counts : after ≡ cond (eqb (next + 1) levels.closed) before (replicate (length before) 0)
-  pub agrees : (all : ℕ → List ℕ) → (levels.closed < next + 1 → Ended all (levels.closed - 1) next before) → AgreesWith levels (level_for planner all) → AgreesWith levels' (level_for planner all)
-  pub plans : (all : ℕ → List ℕ) → (levels.closed < next + 1 → Ended all (levels.closed - 1) next before)
-      → plans_of events' ≡ plans_of events ++ flat_map (shown_after planner all) (range_with_len (levels.closed - 1) (next - (levels.closed - 1)))
-  pub lines : (o : ℕ) → lines_of o events' ≡ lines_of o events
-  pub drops : (w : ℕ) → drops_of w events' ≡ drops_of w events
-  pub within : (outputs drops : ℕ) → ShowsIn outputs drops events events'
+  pub some : ClosesSome planner planner' levels levels' before next events events'
+  pub all : ClosesAll planner levels levels' before after next events events'
 
 -- a table that agrees with more closed levels agrees with fewer
 pub agrees-before : (levels levels' : LevelTable) → ((x w : ℕ) → x < levels.closed → level_of levels' x w ≡ level_of levels x w) → levels.closed ≤ levels'.closed
@@ -110,15 +101,15 @@ module _ {O : Type 0} (m : Ghosts O) (e : Flow O) (flow : IsFlow m e) (pos : 0 <
   module _ (planner' : Setting) (levels' : LevelTable) (mid : List ℕ) (events events' : List Event)
       (did : ClosedBefore e.planner planner' e.levels levels' e.counts.items mid epoch_there events events') where
     pub mid-len : length mid ≡ length e.counts.items
-    mid-len = closed-len (eqb (epoch_there + 1) e.levels.closed) e.counts.items mid did.counts
+    mid-len = closed-len (eqb (epoch_there + 1) e.levels.closed) e.counts.items mid did.all.counts
 
     pub mid-low : (k : ℕ) → slice_index mid k ≤ slice_index e.counts.items k
-    mid-low = closed-low (eqb (epoch_there + 1) e.levels.closed) e.counts.items mid did.counts
+    mid-low = closed-low (eqb (epoch_there + 1) e.levels.closed) e.counts.items mid did.all.counts
 
     -- the counts of the tuple's epoch are those with which it goes on
     mid-there : add_counts (cond (eqb (epoch_there + 1) e.levels.closed) e.counts.items []) (arrivals e.levels.epoch (streams e.sources.items) epoch_there)
         ≡ add_counts mid (arrivals e.levels.epoch (streams e.sources.items) epoch_there)
-    mid-there = by (eqb (epoch_there + 1) e.levels.closed) did.counts
+    mid-there = by (eqb (epoch_there + 1) e.levels.closed) did.all.counts
       where
         by : (b : Bool) → mid ≡ cond b e.counts.items (replicate (length e.counts.items) 0) → add_counts (cond b e.counts.items []) arrive ≡ add_counts mid arrive
         by true h = ap (λ l. add_counts l arrive) (sym h)
@@ -131,12 +122,12 @@ module _ {O : Type 0} (m : Ghosts O) (e : Flow O) (flow : IsFlow m e) (pos : 0 <
 
       -- of each epoch that isn't closed as many tuples are counted or to be released as before
       pub counts-same : (y : ℕ) → levels'.closed ≤ y + 1 → counts_of e y ≡ counts_of flow-after y
-      counts-same y from = by (eqb y epoch_there) refl ∙ sym (ap (λ n. add_counts (cond (eqb (y + 1) n) counts'.items []) (arrivals levels'.epoch (streams sources'.items) y)) did.closed
+      counts-same y from = by (eqb y epoch_there) refl ∙ sym (ap (λ n. add_counts (cond (eqb (y + 1) n) counts'.items []) (arrivals levels'.epoch (streams sources'.items) y)) did.all.closed
           ∙ ap (λ l. add_counts (cond (eqb (y + 1) (epoch_there + 1)) counts'.items []) l)
-          (ap (λ n. arrivals n (streams sources'.items) y) did.epoch ∙ ap (λ l. arrivals e.levels.epoch (streams l) y) taken))
+          (ap (λ n. arrivals n (streams sources'.items) y) did.some.epoch ∙ ap (λ l. arrivals e.levels.epoch (streams l) y) taken))
         where
           later : (b : Bool) → eqb y epoch_there ≡ b → epoch_there ≤ y
-          later b h = let c = did.closed in omega (arith, c, from)
+          later b h = let c = did.all.closed in omega (arith, c, from)
 
           by : (b : Bool) → eqb y epoch_there ≡ b
               → counts_of e y ≡ add_counts (cond (eqb (y + 1) (epoch_there + 1)) counts'.items []) (arrivals e.levels.epoch (streams (set e.sources.items port more)) y)
@@ -158,9 +149,9 @@ module _ {O : Type 0} (m : Ghosts O) (e : Flow O) (flow : IsFlow m e) (pos : 0 <
       pub planned-after : (all : ℕ → List ℕ) → IsPlanned all e → IsPlanned all flow-after
       planned-after all planned =
           record {
-            agrees = rw did.same (did.agrees all (is-ended all planned.counts) planned.agrees);
+            agrees = rw did.some.same (did.some.agrees all (is-ended all planned.counts) planned.agrees);
             counts = λ y from.
-                let c = did.closed in
+                let c = did.all.closed in
                 let before = not-before in
                 planned.counts y (omega (arith, c, before, from)) ∙ counts-same y from;
           }
@@ -169,14 +160,14 @@ module _ {O : Type 0} (m : Ghosts O) (e : Flow O) (flow : IsFlow m e) (pos : 0 <
       plans-go =
           ap (λ z. plans_of events ++ z) cut
           ∙ sym (append_assoc (plans_of events) shown (plans_left flow-after))
-          ∙ ap (λ z. z ++ plans_left flow-after) (sym (did.plans (counts_of e) (is-ended (counts_of e) (λ y from. refl))))
+          ∙ ap (λ z. z ++ plans_left flow-after) (sym (did.all.plans (counts_of e) (is-ended (counts_of e) (λ y from. refl))))
         where
           last-is : last_arrival e.levels.epoch (streams e.sources.items) ≡ max epoch_there (last_arrival levels'.epoch (streams sources'.items))
           last-is = last-taken e.levels.epoch v more x front e.sources.items port at
-              ∙ ap (λ k. max epoch_there k) (sym (ap (λ n. last_arrival n (streams sources'.items)) did.epoch ∙ ap (λ l. last_arrival e.levels.epoch (streams l)) taken))
+              ∙ ap (λ k. max epoch_there k) (sym (ap (λ n. last_arrival n (streams sources'.items)) did.some.epoch ∙ ap (λ l. last_arrival e.levels.epoch (streams l)) taken))
 
           there : levels'.closed - 1 ≡ epoch_there
-          there = let c = did.closed in omega (arith, c)
+          there = let c = did.all.closed in omega (arith, c)
 
           cut : plans_left e ≡ shown ++ plans_left flow-after
           cut =
@@ -184,8 +175,8 @@ module _ {O : Type 0} (m : Ghosts O) (e : Flow O) (flow : IsFlow m e) (pos : 0 <
               ap (λ k. flat_map (shown_after e.planner (counts_of e)) (range_with_len open_epoch (k - open_epoch))) last-is
               ∙ plans-cut (shown_after e.planner (counts_of e)) (shown_after planner' (counts_of flow-after)) open_epoch epoch_there (last_arrival levels'.epoch (streams sources'.items)) (omega (arith, before))
               (λ y from.
-              let c = did.closed in
-              ap (λ s. shown_after s (counts_of e) y) (sym did.same) ∙ ap (shown_from planner' y) (counts-same y (omega (arith, c, from))))
+              let c = did.all.closed in
+              ap (λ s. shown_after s (counts_of e) y) (sym did.some.same) ∙ ap (shown_from planner' y) (counts-same y (omega (arith, c, from))))
               ∙ ap (λ k. shown ++ flat_map (shown_after planner' (counts_of flow-after)) (range_with_len k (last_arrival levels'.epoch (streams sources'.items) - k))) (sym there)
 
       -- where the tuple can't be sent
@@ -193,7 +184,7 @@ module _ {O : Type 0} (m : Ghosts O) (e : Flow O) (flow : IsFlow m e) (pos : 0 <
       plans-front =
           record {
             shown = (plans_left flow-after, plans-go);
-            agrees = λ all planned. did.agrees all (is-ended all planned.counts) planned.agrees;
+            agrees = λ all planned. did.some.agrees all (is-ended all planned.counts) planned.agrees;
           }
 
   -- where the epochs before it can't be closed

@@ -12,10 +12,9 @@ use Rattle.sq_road.specs.Levels.{LevelTable, AgreesWith}
 use Rattle.sq_plan.specs.Plans.{Setting}
 use Rattle.sq_oper.specs.declared.operator.Operator.{Ghosts}
 use Rattle.sq_oper.specs.declared.outs.Event.{Event}
-use Rattle.sq_oper.specs.Entries.{Entry}
 use Rattle.sq_oper.specs.Streams.{things, IsSoundTuple, tuples_in}
 use Rattle.sq_oper.proofs.GivenLemmas.{ThingsUpTo-later}
-use Rattle.sq_left.specs.Remainder.{Net, Holding, coming, inputs, is_known_actor}
+use Rattle.sq_left.specs.Remainder.{Net, is_known_actor}
 use Rattle.sq_left.specs.Heads.{AllFine}
 use Rattle.sq_left.proofs.MergeLemmas.{eqb-no, eqb-not}
 use Rattle.sq_left.proofs.Conserve.{Kept}
@@ -23,28 +22,27 @@ use Rattle.sq_left.proofs.WorldSteps.{world-released}
 use Rattle.sq_queue.specs.declared.Queues.{Queues}
 use Rattle.sq_outside.specs.Disks.{Pages}
 use Rattle.sq_pool.specs.Trust.{Tells}
-use Rattle.sq_queue.specs.Faces.{face, size, frames, items_on, Together}
+use Rattle.sq_queue.specs.Faces.{face, items_on, Together}
 use Rattle.sq_replay.specs.RecordedTuples.{Recorded}
-use Rattle.sq_flow.specs.Sends.{many, is_sent_by, Pushes}
+use Rattle.sq_flow.specs.Sends.{many, Pushes, EndsOnly}
 use Rattle.sq_flow.specs.Sources.{BeginsLeast, IsNextSource}
 use Rattle.sq_flow.proofs.PlanLemmas.{rise-later}
 use Rattle.sq_flow.proofs.DropLemmas.{owns-later}
-use Rattle.sq_flow.proofs.ReleasedPlans.{ClosedBefore, agrees-before, epoch_there, not-before, mid-len, mid-low, planned-after, plans-go}
+use Rattle.sq_flow.proofs.ReleasedPlans.{ClosedBefore, agrees-before, epoch_there, mid-len, mid-low, planned-after, plans-go}
 use Rattle.sq_flow.specs.Readiness.{TouchesOnly}
 use Rattle.sq_flow.proofs.TouchLemmas.{away-from, stands-grows, stands-pushed}
-use Rattle.sq_flow.proofs.WireLemmas.{one-sent, comes-from}
+use Rattle.sq_flow.proofs.WireLemmas.{sent, one-sent, comes-from}
 use Rattle.sq_flow.specs.declared.seats.Seat.{Seat}
 use Rattle.sq_flow.specs.declared.flow.Flow.{Flow}
 use Rattle.sq_flow.specs.Wiring.{net_of, arcs_from, times_in, from_of, IsOwn}
 use Rattle.sq_flow.specs.Seats.{done_at, holds_at, IsSeat}
 use Rattle.sq_flow.specs.Events.{lines_of, drops_of}
-use Rattle.sq_flow.specs.Flows.{world_of, IsFlow, HoldsItems, Goes, Stepped, ShowsPrefix, RiseFrom, to_release, tuples_to_come, fed_on, lines_left, decisions_left, turns_at_last, count_all}
+use Rattle.sq_flow.specs.Flows.{world_of, IsFlow, HoldsItems, Goes, Stepped, ShowsPrefix, RiseFrom, to_release, tuples_to_come, fed_on, lines_left, decisions_left, count_all}
 use Rattle.sq_flow.proofs.SendLemmas.{at_or_other, apart-arcs}
-use Rattle.sq_flow.proofs.ArcLemmas.{arcs-fed}
+use Rattle.std.proofs.Math.Bool.{or-true, or-false}
+use Rattle.sq_flow.proofs.SeatFlow.{turns-same, goes-kept}
 use Rattle.sq_words.specs.Lists.{contains_number}
-use Rattle.sq_flow.proofs.WiringWords.{sent}
 use Rattle.std.proofs.lemmas.Map.Views.{exact_unsigned_eq}
-use Rattle.sq_flow.proofs.DoneLemmas.{sums-agree}
 use Rattle.sq_words.proofs.Lists.{get_set_same, get_set_other}
 use Rattle.sq_words.proofs.Numbers.{eqb_true}
 
@@ -76,12 +74,6 @@ module _ {O : Type 0} (m : Ghosts O) (e : Flow O) (flow : IsFlow m e) (table : �
   abbrev e' : Flow O
   e' = record e { over = over'; queues = queues'; sources = sources'; clock = clock'; planner = planner'; levels = levels'; counts = counts' }
 
-  abbrev was : Holding
-  was = world_of m table items e
-
-  abbrev is : Holding
-  is = world_of m table items' e'
-
   some-seat : (other : ℕ) → other < length e.seats.items → done_at over' (slice_get e.seats.items other) ≡ done_at e.over (slice_get e.seats.items other)
   some-seat other low = by (slice_get e.seats.items other) (slice_get-not_none e.seats.items other low)
     where
@@ -89,9 +81,9 @@ module _ {O : Type 0} (m : Ghosts O) (e : Flow O) (flow : IsFlow m e) (table : �
       by None n = absurd (n refl)
       by (Some s) n = refl
 
-  pub kept : Kept net was is pushed (λ _. []) (λ _. []) e.wires.order.items
+  pub kept : Kept net (world_of m table items e) (world_of m table items' e') pushed (λ _. []) (λ _. []) e.wires.order.items
   kept =
-      world-released net was is pushed (λ _. []) e.wires.order.items flow.shaped.wired holds.facts
+      world-released net (world_of m table items e) (world_of m table items' e') pushed (λ _. []) e.wires.order.items flow.shaped.wired holds.facts
       (λ k within. sym (given_on k within))
       source
       (λ other ne k. record { rest = refl; decide = refl; lost = refl; taken = refl; place = refl; done = done-same other ne k })
@@ -111,43 +103,14 @@ module _ {O : Type 0} (m : Ghosts O) (e : Flow O) (flow : IsFlow m e) (table : �
         queued = fine;
       }
 
-  turns-same : turns_at_last m table items e ≡ turns_at_last m table items' e'
-  turns-same =
-      let k = kept in
-      let is_replay = flow.shaped.replay_is in
-      let sums = sums-agree (λ other. length (inputs net was e.wires.order.items other)) (λ other. length (inputs net is e.wires.order.items other)) (length e.seats.items)
-      (λ other low. let away : other ≢ net.replay = omega (arith, is_replay, low) in ap (λ (l : List Entry). length l) (k.told other (flow.shaped.ordered other low) away).comes) in
-      ap (λ n. e.taken + n) sums
-
   pub goes-after : (events events' : List Event) → ((o : ℕ) → lines_of o events' ≡ lines_of o events) → ((w : ℕ) → drops_of w events' ≡ drops_of w events) → ((output : ℕ) → output < length e.seats.items → (q : ℕ) → pushed output q ≡ [])
       → Goes m table items items' e e' events events'
   goes-after events events' shown decides none =
-      let k = kept in
-      record {
-        lines = λ output low.
-            ap (λ z. lines_of output events ++ tuples_in z)
-            (k.streams (e.wires.shown + output) 0 (flow.shaped.ordered (e.wires.shown + output) low)
-            ∙ ap (λ z. z ++ coming net is e.wires.order.items (e.wires.shown + output) 0) (none (e.wires.shown + output) low 0))
-            ∙ ap (λ z. z ++ lines_left m table items' e' output) (sym (shown output));
-        drops = λ w low.
-            let is_replay = flow.shaped.replay_is in
-            let some = flow.shaped.shown_in in
-            let there : e.wires.sheds + w < length e.seats.items = omega (arith, some, low) in
-            let away : e.wires.sheds + w ≢ net.replay = omega (arith, is_replay, there) in
-            ap (λ z. drops_of w events ++ z) (k.told (e.wires.sheds + w) (flow.shaped.ordered (e.wires.sheds + w) there) away).decisions
-            ∙ ap (λ z. z ++ decisions_left m table items' e' (e.wires.sheds + w)) (sym (decides w));
-        fed = λ other low.
-            let r = flow.shaped.replay_is in
-            let away : other ≢ net.replay = omega (arith, r, low) in
-            (k.told other (flow.shaped.ordered other low) away).fed;
-        lost = λ other low.
-            let r = flow.shaped.replay_is in
-            let away : other ≢ net.replay = omega (arith, r, low) in
-            (k.told other (flow.shaped.ordered other low) away).lost;
-        arcs = arcs-fed e.wires (length e.seats.items) flow.shaped was is (λ _. []) pushed (λ _. []) (λ _. []) (fed_on e) (fed_on e') holds.facts k (λ arc within. sym (given_on arc within))
-            (λ other port arc reads. sym (append-nil (fed_on e other port)));
-        turns = turns-same;
-      }
+      goes-kept m e e' flow table items items' holds pushed (λ _. []) (λ _. []) refl kept (λ _. []) events events' (λ arc within. sym (given_on arc within))
+      (λ other port arc reads. sym (append-nil (fed_on e other port)))
+      (turns-same m e e' flow table items items' holds pushed (λ _. []) (λ _. []) refl kept (λ other. refl) refl)
+      (λ output low. shown output ∙ sym (ap (λ z. lines_of output events ++ tuples_in z) (none (e.wires.shown + output) low 0) ∙ append-nil (lines_of output events)))
+      (λ w low. decides w ∙ sym (append-nil (drops_of w events)))
 
 own-sent : (replay port : ℕ) (xs : List Thing) (q : ℕ) → sent replay port xs replay q ≡ cond (eqb port q) xs []
 own-sent replay port xs q = ap (λ b. cond b (cond (eqb port q) xs []) []) (eqb_true replay replay refl)
@@ -202,11 +165,8 @@ module _ {O : Type 0} (m : Ghosts O) (e : Flow O) (flow : IsFlow m e) where
           least : BeginsLeast e.sources.items port (x ∷ more.items)
           least = subst (BeginsLeast e.sources.items port) front next.least
 
-      grows : e.levels.closed ≤ levels'.closed
-      grows = let low = not-before m e flow pos port v more x next at held in let c = did.closed in omega (arith, low, c)
-
       before : (table : ℕ → ℕ → ℕ) → AgreesWith levels' table → AgreesWith e.levels table
-      before = agrees-before e.levels levels' did.keeps grows
+      before = agrees-before e.levels levels' did.some.keeps did.some.grows
 
       counts-len : length counts'.items ≡ length sources'.items
       counts-len = ap (λ (l : List ℕ). length l) counts_are ∙ length-set mid port (slice_index mid port + 1)
@@ -240,7 +200,7 @@ module _ {O : Type 0} (m : Ghosts O) (e : Flow O) (flow : IsFlow m e) where
                   shaped = flow.shaped;
                   lanes = pushes.lanes ∙ flow.lanes;
                   ended = λ arc low. pushes.ended arc ∙ flow.ended arc low;
-                  seats = λ actor. subst (λ n. holds_at (IsSeat m ((net_of e.wires).takes actor) ((net_of e.wires).fits actor) n e.taken) (slice_get e.seats.items actor)) (sym did.epoch) (flow.seats actor);
+                  seats = λ actor. subst (λ n. holds_at (IsSeat m ((net_of e.wires).takes actor) ((net_of e.wires).fits actor) n e.taken) (slice_get e.seats.items actor)) (sym did.some.epoch) (flow.seats actor);
                   few = flow.few;
                   held = λ table agrees actor q. ThingsUpTo-later e.clock x.time _ first.0 (flow.held table (before table agrees) actor q);
                   replay =
@@ -251,7 +211,7 @@ module _ {O : Type 0} (m : Ghosts O) (e : Flow O) (flow : IsFlow m e) where
                         few_tuples = few-after;
                         ends = λ o. absurd (cc (replay-runs, o));
                       };
-                  levels = (did.closed ∙ ap (λ n. x.time / n + 1) (sym did.epoch), first.1.0);
+                  levels = (did.all.closed ∙ ap (λ n. x.time / n + 1) (sym did.some.epoch), first.1.0);
                   owned = λ actor. owns-later m (IsOwn e.wires actor) e.levels levels' before (slice_get e.seats.items actor) (flow.owned actor);
                 };
             together = pushes.together;
@@ -260,8 +220,8 @@ module _ {O : Type 0} (m : Ghosts O) (e : Flow O) (flow : IsFlow m e) where
             framed = pushes.framed;
             seats = refl;
             closes = before;
-            shows = did.within _ _;
-            planner = did.same;
+            shows = did.some.within _ _;
+            planner = did.some.same;
             planned = planned-after m e flow pos port v more x next at held planner' levels' mid events events' did q' sources' counts' taken counts_are;
             plans = plans-go m e flow pos port v more x next at held planner' levels' mid events events' did q' sources' counts' taken counts_are;
             holds = λ told table agrees holds.
@@ -269,7 +229,7 @@ module _ {O : Type 0} (m : Ghosts O) (e : Flow O) (flow : IsFlow m e) where
                 (pushes.fine told x.time le-refl (λ k. fine-later e.clock x.time (items_on e.queues was k) first.0 (holds.queued k)));
             goes = λ told table agrees holds.
                 goes-after m e flow table (items_on e.queues was) (items_on q' is) holds e.over q' sources' x.time planner' levels' counts' (sent-by) given-there quiet ends (on told)
-                events events' did.lines did.drops (λ output low q. quiet output (not-replay output low) q);
+                events events' did.some.lines did.some.drops (λ output low q. quiet output (not-replay output low) q);
           }
         where
           le-refl : x.time ≤ x.time
@@ -312,18 +272,15 @@ module _ {O : Type 0} (m : Ghosts O) (e : Flow O) (flow : IsFlow m e) where
 
   -- the whole of the end of the replay
   pub ended-stepped : (pages : Option Pages) (q' : Queues) (events : List Event)
-      → Together e.queues pages → ((source : ℕ) → to_release e source ≡ []) → size q' ≡ size e.queues → frames q' ≡ frames e.queues
-      → ((k : ℕ) → k < length e.wires.arcs.items → (face q' k).ended ≡ ((face e.queues k).ended || eqb (from_of (slice_get e.wires.arcs.items k)) e.wires.replay))
-      → ((pages : Option Pages) (k : ℕ) → items_on q' pages k ≡ items_on e.queues pages k)
-      → ((pages : Option Pages) → Together e.queues pages → Together q' pages)
+      → Together e.queues pages → ((source : ℕ) → to_release e source ≡ []) → EndsOnly e.wires e.wires.replay e.queues q'
       → Stepped m pages pages e (record e { over = true; queues = q' }) events events
-  ended-stepped pages q' events together none lanes framed ended same stays =
+  ended-stepped pages q' events together none ends =
       record {
         flow_after =
             record {
               shaped = flow.shaped;
-              lanes = lanes ∙ flow.lanes;
-              ended = λ arc low. ended arc low ∙ ap (λ b. b || eqb (from_of (slice_get e.wires.arcs.items arc)) e.wires.replay) (flow.ended arc low)
+              lanes = ends.keeps.lanes ∙ flow.lanes;
+              ended = λ arc low. ends.ended arc low ∙ ap (λ b. b || eqb (from_of (slice_get e.wires.arcs.items arc)) e.wires.replay) (flow.ended arc low)
                   ∙ done-is (from_of (slice_get e.wires.arcs.items arc)) (flow.shaped.from_in arc low);
               seats = flow.seats;
               few = flow.few;
@@ -332,10 +289,10 @@ module _ {O : Type 0} (m : Ghosts O) (e : Flow O) (flow : IsFlow m e) where
               levels = flow.levels;
               owned = flow.owned;
             };
-        together = stays pages together;
+        together = ends.keeps.together pages together;
         tells = λ told. told;
         wires = refl;
-        framed = framed;
+        framed = ends.keeps.framed;
         seats = refl;
         closes = λ table h. h;
         shows = λ h. h;
@@ -344,26 +301,18 @@ module _ {O : Type 0} (m : Ghosts O) (e : Flow O) (flow : IsFlow m e) where
         plans = refl;
         holds = λ told table agrees holds.
             holds-after m e flow table (items_on e.queues pages) (items_on q' pages) holds true q' e.sources e.clock e.planner e.levels e.counts (λ _ _. []) (λ q. refl) (λ other ne q. refl) (λ o. none) (on)
-            (λ k. subst (AllFine e.clock) (sym (same pages k)) (holds.queued k));
+            (λ k. subst (AllFine e.clock) (sym (ends.keeps.items pages k)) (holds.queued k));
         goes = λ told table agrees holds.
             goes-after m e flow table (items_on e.queues pages) (items_on q' pages) holds true q' e.sources e.clock e.planner e.levels e.counts (λ _ _. []) (λ q. refl) (λ other ne q. refl) (λ o. none) (on)
             events events (λ o. refl) (λ w. refl) (λ output low q. refl);
       }
     where
       on : (k : ℕ) → k < length e.wires.arcs.items → spread_all (items_on q' pages k) ≡ spread_all (items_on e.queues pages k) ++ []
-      on k low = ap spread_all (same pages k) ∙ sym (append-nil (spread_all (items_on e.queues pages k)))
+      on k low = ap spread_all (ends.keeps.items pages k) ∙ sym (append-nil (spread_all (items_on e.queues pages k)))
 
       done-is : (actor : ℕ) → actor < length e.seats.items + 1 → (done_at e.over (slice_get e.seats.items actor) || eqb actor e.wires.replay) ≡ done_at true (slice_get e.seats.items actor)
       done-is actor low = by (eqb actor e.wires.replay) refl
         where
-          or-true : (b : Bool) → (b || true) ≡ true
-          or-true true = refl
-          or-true false = refl
-
-          or-false : (b : Bool) → (b || false) ≡ b
-          or-false true = refl
-          or-false false = refl
-
           some : (o : Option (Seat O)) → o ≢ None → (done_at e.over o || false) ≡ done_at true o
           some None n = absurd (n refl)
           some (Some s) n = or-false (not s.tally.running)
@@ -379,17 +328,13 @@ module _ {O : Type 0} (m : Ghosts O) (e : Flow O) (flow : IsFlow m e) where
               let away : actor ≢ e.wires.replay = eqb-no actor e.wires.replay k in
               some (slice_get e.seats.items actor) (slice_get-not_none e.seats.items actor (omega (arith, r, away, low)))
 
-  pub ended-touches : (q' : Queues)
-      → ((k : ℕ) → k < length e.wires.arcs.items → (face q' k).ended ≡ ((face e.queues k).ended || eqb (from_of (slice_get e.wires.arcs.items k)) e.wires.replay))
-      → ((k : ℕ) → (face q' k).first ≡ (face e.queues k).first)
-      → ((k : ℕ) → is_sent_by e.wires e.wires.replay k ≡ false → face q' k ≡ face e.queues k)
-      → TouchesOnly (length e.seats.items) e (record e { over = true; queues = q' })
-  ended-touches q' ended first same =
+  pub ended-touches : (q' : Queues) → EndsOnly e.wires e.wires.replay e.queues q' → TouchesOnly (length e.seats.items) e (record e { over = true; queues = q' })
+  ended-touches q' ends =
       record {
-        apart = λ arc low to from. let r = flow.shaped.replay_is in same arc (away-from e.wires e.wires.replay arc (λ is. from (is ∙ r)));
+        apart = λ arc low to from. let r = flow.shaped.replay_is in ends.apart arc (away-from e.wires e.wires.replay arc (λ is. from (is ∙ r)));
         grows = λ arc low to h.
-            stands-grows (face e.queues arc) (face q' arc) (λ some. ap (λ (o : Option ℕ). is_some o) (first arc) ∙ some)
-            (λ over. ended arc low ∙ ap (λ b. b || eqb (from_of (slice_get e.wires.arcs.items arc)) e.wires.replay) over) h;
+            stands-grows (face e.queues arc) (face q' arc) (λ some. ap (λ (o : Option ℕ). is_some o) (ends.keeps.first arc) ∙ some)
+            (λ over. ends.ended arc low ∙ ap (λ b. b || eqb (from_of (slice_get e.wires.arcs.items arc)) e.wires.replay) over) h;
         others = λ other low ne. some-done (slice_get e.seats.items other) (slice_get-not_none e.seats.items other (omega (arith, low, ne)));
       }
     where

@@ -15,7 +15,7 @@ use Rattle.sq_paged.specs.Fronts.{pushed}
 use Rattle.sq_queue.specs.Faces.{face, size, frames, items_on, Together}
 use Rattle.sq_flow.specs.declared.wires.Wires.{Wires}
 use Rattle.sq_flow.specs.Wiring.{arcs_from, times_in}
-use Rattle.sq_flow.specs.Sends.{many, sent_to, is_sent_by, Pushes}
+use Rattle.sq_flow.specs.Sends.{many, sent_to, is_sent_by, Pushes, KeepsItems}
 use Rattle.sq_words.specs.Lists.{contains_number}
 use Rattle.std.proofs.lemmas.Map.Views.{exact_unsigned_eq}
 use Rattle.sq_paged.proofs.LaneLemmas.{some-first}
@@ -35,6 +35,16 @@ at_or_other P i here others j = by (eqb j i) refl
     by : (b : Bool) → eqb j i ≡ b → P j
     by true e = subst P (sym (exact_unsigned_eq j i e)) here
     by false e = others j (eqb-no j i e)
+
+pub keeps-both : (q q1 q2 : Queues) → KeepsItems q q1 → KeepsItems q1 q2 → KeepsItems q q2
+keeps-both q q1 q2 a b =
+    record {
+      lanes = b.lanes ∙ a.lanes;
+      framed = b.framed ∙ a.framed;
+      first = λ arc. b.first arc ∙ a.first arc;
+      items = λ pages arc. b.items pages arc ∙ a.items pages arc;
+      together = λ pages h. b.together pages (a.together pages h);
+    }
 
 -- nothing went to queues whose arcs all have the faces and the items that they had
 pub pushes-same : (q q' : Queues) (was : Option Pages) (more : ℕ → List Thing) (upto : ℕ → Type 0) (near : ℕ → Bool) → size q' ≡ size q → frames q' ≡ frames q → ((arc : ℕ) → face q' arc ≡ face q arc)
@@ -102,10 +112,7 @@ pushes-one q q' p p' at item sound here others lanes framed items apart together
     }
 
 pub many-more : (n : ℕ) (b : Bool) (xs : List Thing) → many (n + cond b 1 0) xs ≡ many n xs ++ cond b xs []
-many-more zero true xs = refl-append xs
-  where
-    refl-append : (ys : List Thing) → ys ++ [] ≡ ys
-    refl-append ys = append-nil ys
+many-more zero true xs = append-nil xs
 many-more zero false xs = refl
 many-more (suc n) true xs =
     let e : suc n + 1 ≡ suc (n + 1) = omega arith in

@@ -1,19 +1,22 @@
 -- What goes on from an actor is shown, one item or decision after another.
-use Rattle.std.proofs.Common.{◌≡◌, ℕ, ◌+◌, ◌-◌, ◌<◌, ◌≤◌, eqb, cond, Bool, true, false, List, [], ◌∷◌, ◌++◌, refl, ap, sym, ◌∙◌, append_assoc, append-nil, arith}
-use Rattle.sq_words.specs.Lists.{IsPrefixOf}
+use Rattle.std.proofs.Common.{◌≡◌, ℕ, ◌+◌, ◌-◌, ◌<◌, ◌≤◌, eqb, cond, Bool, true, false, List, [], ◌∷◌, ◌++◌, Option, Some, None, refl, ap, sym, ◌∙◌, subst, append_assoc, append-nil, arith}
 use Rattle.sq_item.specs.declared.Item.{Item}
-use Rattle.sq_item.specs.Things.{Thing}
+use Rattle.sq_item.specs.declared.Mark.{Mark}
+use Rattle.sq_item.specs.Things.{Thing, spread, mark_part, body_part}
+use Rattle.sq_value.specs.declared.Value.{Value}
+use Rattle.std.specs.List.{AllByRecursion}
 use Rattle.sq_oper.specs.declared.outs.Decision.{Decision}
 use Rattle.sq_oper.specs.declared.outs.Event.{Event}
+use Rattle.sq_oper.specs.declared.outs.Event.TheVariants.{Line, Dropped}
 use Rattle.sq_oper.specs.Outflow.{given}
 use Rattle.sq_oper.proofs.GivenLemmas.{given-append}
 use Rattle.sq_flow.specs.declared.wires.Wires.{Wires}
 use Rattle.sq_flow.specs.Wiring.{pushed_by}
-use Rattle.sq_flow.specs.Events.{lines_of, of_drop, drops_of, ShowsIn}
+use Rattle.sq_flow.specs.Events.{item_line, lines_of, drops_of, IsEventIn, ShowsIn}
 use Rattle.sq_flow.specs.Plans.{plans_of}
 use Rattle.sq_flow.specs.Shows.{IsShown}
-use Rattle.sq_flow.proofs.EventLemmas.{output-is, output-below}
-use Rattle.sq_flow.proofs.DropLemmas.{all-split, decided-next, own-below}
+use Rattle.sq_flow.proofs.EventLemmas.{lines-append, drops-append, plans-append, shows-more, output-is, output-below}
+use Rattle.sq_flow.proofs.DropLemmas.{all-split, lines-drop, drops-drop, decided-next, own-below}
 use Rattle.sq_flow.proofs.FutureLemmas.{not-pushed}
 use Rattle.sq_oper.specs.Streams.{tuples_in}
 use Rattle.sq_words.proofs.Prefixes.{prefix_itself, prefix_along}
@@ -44,19 +47,51 @@ shown-first wires actor events =
       stay = prefix_itself events;
     }
 
+-- what is shown at an output of an item that is given at a port
+module _ (output port : ℕ) (item : Item) where
+  abbrev shows : List Event
+  shows = cond (eqb port 0) (item_line output item.time item.body) []
+
+  nothing : (b : Bool) → [] ≡ cond b (tuples_in []) []
+  nothing true = refl
+  nothing false = refl
+
+  shows-lines : (o : ℕ) → lines_of o shows ≡ cond (eqb output o) (tuples_in (given 0 ((port, item) ∷ []))) []
+  shows-lines o = by (eqb port 0)
+    where
+      one : (m : Option Mark) (b : Option (List Value)) → lines_of o (item_line output item.time b) ≡ cond (eqb output o) (tuples_in ((mark_part item.time m ++ body_part item.time b) ++ [])) []
+      one None None = nothing (eqb output o)
+      one (Some m) None = nothing (eqb output o)
+      one None (Some f) = append-nil (cond (eqb output o) (record { time = item.time; fields = f } ∷ []) [])
+      one (Some m) (Some f) = append-nil (cond (eqb output o) (record { time = item.time; fields = f } ∷ []) [])
+
+      by : (b : Bool) → lines_of o (cond b (item_line output item.time item.body) []) ≡ cond (eqb output o) (tuples_in (cond b (spread item) [] ++ [])) []
+      by true = one item.mark item.body
+      by false = nothing (eqb output o)
+
+  -- what holds of each list of such lines
+  of-lines : (P : List Event → Type 0) → P [] → ((f : List Value) → P (Line output (record { time = item.time; fields = f }) ∷ [])) → P shows
+  of-lines P none one = by (eqb port 0) item.body
+    where
+      by : (b : Bool) (o : Option (List Value)) → P (cond b (item_line output item.time o) [])
+      by false o = none
+      by true None = none
+      by true (Some f) = one f
+
 -- an item of an output
-pub shown-one : (wires : Wires) (actor : ℕ) (out : ℕ × Item) (events events' : List Event) → wires.shown ≤ actor
-    → ((o : ℕ) → lines_of o events' ≡ lines_of o events ++ cond (eqb (actor - wires.shown) o) (tuples_in (given 0 (out ∷ []))) [])
-    → ((outputs drops : ℕ) → actor - wires.shown < outputs → ShowsIn outputs drops events events')
-    → ((w : ℕ) → drops_of w events' ≡ drops_of w events) → plans_of events' ≡ plans_of events → IsPrefixOf events events'
-    → IsShown wires actor (out ∷ []) [] events events'
-shown-one wires actor out events events' shows lines below drops plans stay =
+pub shown-one : (wires : Wires) (actor port : ℕ) (item : Item) (events events' : List Event) → wires.shown ≤ actor
+    → events' ≡ events ++ cond (eqb port 0) (item_line (actor - wires.shown) item.time item.body) [] → IsShown wires actor ((port, item) ∷ []) [] events events'
+shown-one wires actor port item events events' shows same =
+    let output = actor - wires.shown in
+    let more = cond (eqb port 0) (item_line output item.time item.body) [] in
     record {
-      lines = λ o. lines o ∙ ap (λ z. lines_of o events ++ z) (output-is wires.shown actor o (given 0 (out ∷ [])) shows);
-      decided = λ w. drops w ∙ sym (append-nil (drops_of w events));
-      plans = plans;
-      below = λ outputs low own h. below outputs (wires.shown - wires.sheds) (output-below actor wires.shown outputs shows low) h;
-      stay = stay;
+      lines = λ o. ap (lines_of o) same ∙ lines-append o events more ∙ ap (λ z. lines_of o events ++ z) (shows-lines output port item o ∙ output-is wires.shown actor o (given 0 ((port, item) ∷ [])) shows);
+      decided = λ w. ap (drops_of w) same ∙ drops-append w events more ∙ ap (λ z. drops_of w events ++ z) (of-lines output port item (λ l. drops_of w l ≡ []) refl (λ f. refl));
+      plans = ap plans_of same ∙ plans-append events more ∙ ap (λ z. plans_of events ++ z) (of-lines output port item (λ l. plans_of l ≡ []) refl (λ f. refl)) ∙ append-nil (plans_of events);
+      below = λ outputs low own.
+          subst (ShowsIn outputs (wires.shown - wires.sheds) events) (sym same)
+          (shows-more outputs _ events more (of-lines output port item (AllByRecursion (IsEventIn outputs (wires.shown - wires.sheds))) tt (λ f. (output-below actor wires.shown outputs shows low, tt))));
+      stay = (more, same);
     }
 
 -- an item of another actor
@@ -89,17 +124,15 @@ shown-item wires actor items drops out events mid events' first next =
 
 -- one decision more
 pub shown-drop : (wires : Wires) (actor : ℕ) (items : List (ℕ × Item)) (drops : List Decision) (d : Decision) (events mid events' : List Event)
-    → IsShown wires actor items drops events mid
-    → ((w : ℕ) → drops_of w events' ≡ drops_of w mid ++ of_drop w (d ∷ [])) → ((o : ℕ) → lines_of o events' ≡ lines_of o mid) → plans_of events' ≡ plans_of mid
-    → ((outputs limit : ℕ) → d.drop < limit → ShowsIn outputs limit mid events') → IsPrefixOf mid events'
-    → IsShown wires actor items (drops ++ d ∷ []) events events'
-shown-drop wires actor items drops d events mid events' first decided lines plans below stay =
+    → IsShown wires actor items drops events mid → events' ≡ mid ++ Dropped d ∷ [] → IsShown wires actor items (drops ++ d ∷ []) events events'
+shown-drop wires actor items drops d events mid events' first same =
     record {
-      lines = λ o. lines o ∙ first.lines o;
-      decided = λ w. decided-next w drops d (drops_of w events) (drops_of w mid) (drops_of w events') (first.decided w) (decided w);
-      plans = plans ∙ first.plans;
+      lines = λ o. ap (lines_of o) same ∙ lines-drop o mid d ∙ first.lines o;
+      decided = λ w. decided-next w drops d (drops_of w events) (drops_of w mid) (drops_of w events') (first.decided w) (ap (drops_of w) same ∙ drops-drop w mid d);
+      plans = ap plans_of same ∙ plans-append mid (Dropped d ∷ []) ∙ append-nil (plans_of mid) ∙ first.plans;
       below = λ outputs low own h.
           let each = all-split _ drops (d ∷ []) own in
-          below outputs (wires.shown - wires.sheds) (own-below wires actor (d ∷ []) each.1).0 (first.below outputs low each.0 h);
-      stay = prefix_along events mid events' first.stay stay;
+          subst (ShowsIn outputs (wires.shown - wires.sheds) mid) (sym same)
+          (shows-more outputs (wires.shown - wires.sheds) mid (Dropped d ∷ []) ((own-below wires actor (d ∷ []) each.1).0, tt)) (first.below outputs low each.0 h);
+      stay = prefix_along events mid events' first.stay (Dropped d ∷ [], same);
     }

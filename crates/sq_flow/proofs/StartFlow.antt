@@ -7,7 +7,6 @@ use Rattle.sq_road.specs.Levels.{Rows, level_of}
 use Rattle.sq_plan.specs.PlanRows.{level_for, shown_from, shown_after}
 use Rattle.sq_value.specs.declared.Value.{Value}
 use Rattle.sq_oper.specs.declared.operator.Operator.{Ghosts}
-use Rattle.sq_oper.specs.declared.tally.Moment.TheVariants.{Start}
 use Rattle.sq_oper.specs.declared.outs.Decision.{Decision}
 use Rattle.sq_oper.specs.Order.{IsFuture}
 use Rattle.sq_oper.specs.Outflow.{ThingsUpTo}
@@ -15,7 +14,7 @@ use Rattle.sq_queue.specs.Faces.{face, size}
 use Rattle.sq_flow.specs.declared.seats.Seat.{Seat}
 use Rattle.sq_flow.specs.declared.flow.Flow.{Flow}
 use Rattle.sq_flow.specs.Wiring.{net_of, from_of, IsOwn, IsShaped}
-use Rattle.sq_flow.specs.Seats.{rest_at, done_at, moment_at, holds_at, IsSeat, Owns}
+use Rattle.sq_flow.specs.Seats.{rest_at, done_at, holds_at, IsSeat, Owns}
 use Rattle.sq_flow.specs.Flows.{IsFlow, RiseFrom, to_release}
 use Rattle.sq_flow.specs.Starts.{IsNewSeat}
 use Rattle.sq_flow.specs.Plans.{arrivals, last_arrival, add_counts, streams_left, counts_of, IsPlanned, plans_left}
@@ -34,13 +33,6 @@ module _ {O : Type 0} (m : Ghosts O) (e : Flow O)
       by : (o : Option (Seat O)) → holds_at (IsNewSeat m ((net_of e.wires).takes actor) ((net_of e.wires).fits actor) (IsOwn e.wires actor) e.levels.epoch) o → done_at e.over o ≡ false
       by None h = runs
       by (Some s) h = ap not h.open_now
-
-  pub place-start : (actor : ℕ) → moment_at m (slice_get e.seats.items actor) ≡ Start
-  place-start actor = by (slice_get e.seats.items actor) (seats actor)
-    where
-      by : (o : Option (Seat O)) → holds_at (IsNewSeat m ((net_of e.wires).takes actor) ((net_of e.wires).fits actor) (IsOwn e.wires actor) e.levels.epoch) o → moment_at m o ≡ Start
-      by None h = refl
-      by (Some s) h = h.place
 
   pub start-flow : IsFlow m e
   start-flow =

@@ -1,6 +1,6 @@
 -- A step, and a train as one step after another.
 use Rattle.std.proofs.Common.{◌≡◌, ℕ, ◌+◌, ◌≤◌, true, false, le_refl, le_trans, refl, subst, sym, arith, inl, inr}
-use Rattle.std.specs.Prelude.{List, Result, Ok, Err, IfOk, IfErr, slice_get}
+use Rattle.std.specs.Prelude.{List, Option, Result, Ok, Err, IfOk, IfErr, slice_get}
 use Rattle.sq_outside.specs.Disks.{DiskLog}
 use Rattle.sq_oper.specs.declared.operator.Operator.{Ghosts}
 use Rattle.sq_oper.specs.declared.outs.Event.{Event}
@@ -16,7 +16,7 @@ use Rattle.sq_flow.specs.Causes.{IsFeedCause}
 use Rattle.sq_flow.specs.Flows.{IsFlow, FailsAt, measure_of}
 use Rattle.sq_flow.specs.Readiness.{IsReady, Took}
 use Rattle.sq_flow.specs.Seats.{done_at}
-use Rattle.sq_flow.specs.Stepping.{Stage, Remains, Proceeds, StepOk, TrainOk, StepErr}
+use Rattle.sq_flow.specs.Stepping.{Stage, Remains, Proceeds, MayStep, StepOk, StepWhole, TrainOk, StepErr}
 use Rattle.sq_flow.proofs.StepLemmas.{stepped-none, stepped-both, prefix-after, plans-after, none-strange-after, costs-after, costs-most-after, too-much-after}
 use Rattle.sq_flow.proofs.CauseLemmas.{cause-since}
 use Rattle.sq_flow.proofs.TouchLemmas.{touches-none, touches-both}
@@ -45,10 +45,10 @@ if-err (Ok x) P Q from h = tt
 if-err (Err e) P Q from h = from e h
 
 -- a step that takes no steps' count takes it at any
-module _ {O : Type 0} (m : Ghosts O) (n : ℕ) (before after : ℕ → Stage O) where
-  pub ok-at : (place actor : ℕ) (r : Result Did RunErr) → place ≡ actor → IfOk r (λ did. (k : ℕ) → StepOk m place did (before k) (after k))
-      → IfOk r (λ did. StepOk m actor did (before n) (after n))
-  ok-at place actor r same h = if-ok r _ _ (λ did told. subst (λ a. StepOk m a did (before n) (after n)) same (told n)) h
+module _ {O : Type 0} (m : Ghosts O) (n : ℕ) (failed : Option RunErr) (before after : ℕ → Stage O) where
+  pub ok-at : (place actor : ℕ) (r : Result Did RunErr) → place ≡ actor → IfOk r (λ did. (k : ℕ) → StepWhole m place did (before k) (after k) failed)
+      → IfOk r (λ did. StepWhole m actor did (before n) (after n) failed)
+  ok-at place actor r same h = if-ok r _ _ (λ did told. subst (λ a. StepWhole m a did (before n) (after n) failed) same (told n)) h
 
   pub err-at : (r : Result Did RunErr) → IfErr r (λ e. (k : ℕ) → StepErr m (before k) (after k) e) → IfErr r (StepErr m (before n) (after n))
   err-at r h = if-err r _ _ (λ e told. told n) h
@@ -65,8 +65,9 @@ module _ {O : Type 0} (m : Ghosts O) where
   moves-none actor a flow together =
       record { stepped = stepped-none m (known a.log) a.flow a.events flow together; keeps = keeps-none a; touches = touches-none actor a.flow; cost = refl }
 
-  pub step-waits : (actor : ℕ) (a : Stage O) → IsFlow m a.flow → Together a.flow.queues (known a.log) → (IsReady a.flow actor → ⊥) → StepOk m actor Waits a a
-  step-waits actor a flow together waits = record { moves = moves-none actor a flow together; lowers = refl; took = tt; waits = (waits, refl) }
+  pub step-waits : (actor : ℕ) (a : Stage O) (failed : Option RunErr) → MayStep m a.flow (known a.log) failed → (IsReady a.flow actor → ⊥) → StepWhole m actor Waits a a failed
+  step-waits actor a failed may waits =
+      record { step = record { moves = moves-none actor a may.holds.flow may.holds.together; lowers = refl; took = tt; waits = (waits, refl) }; whole = may.whole }
 
   pub moves-both : (actor : ℕ) (a b c : Stage O) → Proceeds m actor a b → Proceeds m actor b c → Proceeds m actor a c
   moves-both actor a b c p q =

@@ -4,7 +4,7 @@ use Rattle.std.specs.Prelude.{slice_get}
 use Rattle.std.specs.List.{sum_by}
 use Rattle.std.proofs.lemmas.List.Sums.{sum_by-cons}
 use Rattle.std.proofs.lemmas.Option.{same_Some, slice_get_past}
-use Rattle.sq_left.specs.Remainder.{Net, is_known_actor, Each, IsLaidOut}
+use Rattle.sq_left.specs.Remainder.{Net, is_known_actor, IsLaidOut}
 use Rattle.sq_left.proofs.MergeLemmas.{eqb-not}
 use Rattle.sq_paged.specs.Fronts.{Face, IsPopped}
 use Rattle.sq_queue.specs.declared.Queues.{Queues}
@@ -18,6 +18,7 @@ use Rattle.sq_flow.specs.Seats.{done_at}
 use Rattle.sq_flow.specs.Flows.{count_all}
 use Rattle.sq_flow.specs.Readiness.{to_take, Took}
 use Rattle.sq_flow.proofs.TouchLemmas.{away-from}
+use Rattle.sq_flow.proofs.ArcLemmas.{each-at}
 use Rattle.std.proofs.lemmas.Map.Views.{exact_unsigned_eq}
 use Rattle.sq_words.proofs.Numbers.{eqb_true}
 
@@ -39,11 +40,6 @@ sums-less (x ∷ xs) g h (suc port) arc is less same =
     let here = same 0 x refl (λ z. omega (arith, z)) in
     let rest = sums-less xs g h port arc is less (λ p y at ne. same (suc p) y at (λ z. ne (omega (arith, z)))) in
     omega (arith, here, rest, sum_by-cons g x xs, sum_by-cons h x xs)
-
-each-at : (P : ℕ → Type 0) (xs : List ℕ) (i x : ℕ) → Each P xs → slice_get xs i ≡ Some x → P x
-each-at P [] i x h is = cc is
-each-at P (y ∷ xs) zero x h is = subst P (same_Some y x is) h.0
-each-at P (y ∷ xs) (suc i) x h is = each-at P xs i x h.1 is
 
 -- no operator reads what it gives
 reads-others : (net : Net) (order : List ℕ) → IsLaidOut net order → (actor : ℕ) → is_known_actor net order actor ≡ true → actor ≢ net.replay

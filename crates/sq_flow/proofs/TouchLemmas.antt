@@ -1,5 +1,6 @@
 -- What a call of one actor leaves alone.
 use Rattle.std.proofs.Common.{◌≡◌, ◌≢◌, ℕ, Bool, true, false, ◌||◌, Option, List, length, refl, ap, ◌∙◌}
+use Rattle.std.proofs.lemmas.Bool.{or_right}
 use Rattle.std.specs.Prelude.{slice_get, is_some}
 use Rattle.sq_outside.specs.Disks.{Pages}
 use Rattle.sq_item.specs.Things.{Thing}
@@ -16,13 +17,9 @@ use Rattle.sq_flow.specs.Readiness.{stands, TouchesOnly}
 pub stands-grows : (a b : Face) → (is_some a.first ≡ true → is_some b.first ≡ true) → (a.ended ≡ true → b.ended ≡ true) → stands a ≡ true → stands b ≡ true
 stands-grows a b first ended h = by (is_some a.first) refl h
   where
-    or-true : (x y : Bool) → y ≡ true → (x || y) ≡ true
-    or-true true y e = refl
-    or-true false y e = e
-
     by : (x : Bool) → is_some a.first ≡ x → (x || a.ended) ≡ true → stands b ≡ true
     by true e k = ap (λ x. x || b.ended) (first e)
-    by false e k = or-true (is_some b.first) b.ended (ended k)
+    by false e k = or_right (is_some b.first) b.ended (ended k)
 
 -- an arc that doesn't come from the actor
 pub away-from : (wires : Wires) (actor arc : ℕ) → from_of (slice_get wires.arcs.items arc) ≢ actor → is_sent_by wires actor arc ≡ false

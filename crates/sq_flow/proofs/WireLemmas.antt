@@ -1,22 +1,28 @@
 -- What goes to arcs, by the streams that they come from.
-use Rattle.std.proofs.Common.{◌≡◌, ◌≢◌, ℕ, zero, suc, ◌<◌, eqb, cond, Bool, true, false, ◌||◌, List, [], ◌∷◌, ◌++◌, length, Some, refl, ap, sym, ◌∙◌, append-nil, arith}
+use Rattle.std.proofs.Common.{◌≡◌, ◌≢◌, ℕ, zero, suc, ◌<◌, eqb, cond, Bool, true, false, ◌||◌, List, [], ◌∷◌, ◌++◌, length, Option, Some, None, refl, ap, sym, ◌∙◌, append-nil, arith}
 use Rattle.std.specs.Prelude.{slice_get}
 use Rattle.std.proofs.lemmas.Option.{same_Some}
 use Rattle.sq_item.specs.declared.Item.{Item}
 use Rattle.sq_item.specs.Things.{Thing, spread}
 use Rattle.sq_oper.specs.declared.operator.Operator.{Ghosts}
 use Rattle.sq_oper.specs.Outflow.{given}
-use Rattle.sq_queue.specs.Faces.{face, size}
+use Rattle.sq_outside.specs.Disks.{Pages}
+use Rattle.sq_queue.specs.declared.Queues.{Queues}
+use Rattle.sq_queue.specs.Faces.{face, size, Together}
+use Rattle.sq_flow.specs.declared.errors.RunErr.{RunErr}
 use Rattle.sq_flow.specs.declared.wires.Wires.{Wires}
 use Rattle.sq_flow.specs.declared.flow.Flow.{Flow}
 use Rattle.sq_flow.specs.Wiring.{arcs_from, times_in, from_of, arc_port, pushed_by, IsShaped}
 use Rattle.sq_flow.specs.Seats.{done_at}
-use Rattle.sq_flow.specs.Sends.{many, sent_to, is_sent_by}
+use Rattle.sq_flow.specs.Sends.{many, sent_to, is_sent_by, MayGive}
 use Rattle.sq_flow.specs.Flows.{IsFlow}
 use Rattle.sq_words.specs.Lists.{contains_number}
-use Rattle.sq_flow.proofs.WiringWords.{sent}
 use Rattle.std.proofs.lemmas.Map.Views.{exact_unsigned_eq}
 use Rattle.sq_words.proofs.Numbers.{eqb_true}
+
+-- what an item that an actor gives at a port is on a stream
+abbrev pub sent : ℕ → ℕ → List Thing → ℕ → ℕ → List Thing
+sent actor port things from to = cond (eqb actor from) (cond (eqb port to) things []) []
 
 times-some : (xs : List ℕ) (place x : ℕ) → slice_get xs place ≡ Some x → times_in x xs ≢ 0
 times-some [] place x is = λ h. cc is
@@ -88,3 +94,20 @@ pub arcs-open : {O : Type 0} (m : Ghosts O) (e : Flow O) (flow : IsFlow m e) (ac
 arcs-open m e flow actor open_now port place arc is =
     let r = reads-from e.wires (length e.seats.items) flow.shaped actor port place arc is in
     (rw flow.lanes r.0, flow.ended arc r.0 ∙ ap (λ k. done_at e.over (slice_get e.seats.items k)) (sym r.1) ∙ open_now)
+
+-- so it may give, where the queues have the arcs that the flow has, as far ended
+pub may-give : {O : Type 0} (m : Ghosts O) (e : Flow O) (flow : IsFlow m e) (actor : ℕ) → actor < length e.seats.items → done_at e.over (slice_get e.seats.items actor) ≡ false
+    → (queues : Queues) (was : Option Pages) (failed : Option RunErr) → size queues ≡ size e.queues → ((arc : ℕ) → (face queues arc).ended ≡ (face e.queues arc).ended)
+    → Together queues was → failed ≡ None → MayGive e.wires actor queues was failed
+may-give m e flow actor low open_now queues was failed lanes ended together whole =
+    record {
+      passes = λ port.
+          record {
+            within = (let many = flow.shaped.readers_len in omega (arith, low, many));
+            shown = λ past. flow.shaped.outputs_end actor port past low;
+            there = λ place arc is. let r = arcs-open m e flow actor open_now port place arc is in (rw lanes r.0, ended arc ∙ r.1);
+            together = together;
+            whole = whole;
+          };
+      joined = comes-from e.wires (length e.seats.items) flow.shaped actor;
+    }

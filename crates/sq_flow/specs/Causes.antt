@@ -1,17 +1,17 @@
 -- Why a step failed, and what shows it.
-use Rattle.std.specs.Prelude.{◌≡◌, ◌≢◌, ◌⊎◌, ℕ, ◌+◌, ◌^◌, ◌≤◌, ⊤, List, ◌∷◌, length, Option, Some, None, slice_get}
+use Rattle.std.specs.Prelude.{◌≡◌, ◌≢◌, ◌⊎◌, ℕ, ◌+◌, ◌^◌, ◌≤◌, ◌<◌, ⊤, true, List, ◌∷◌, length, Option, Some, None, is_some, slice_get}
 use Rattle.sq_item.specs.declared.Item.{Item}
 use Rattle.sq_item.specs.SoundItems.{IsSoundItem}
 use Rattle.sq_item.specs.Things.{spread}
-use Rattle.sq_oper.specs.declared.tally.Moment.{Moment}
-use Rattle.sq_outside.specs.Disks.{DiskLog}
+use Rattle.sq_oper.specs.declared.tally.Position.{Position}
+use Rattle.sq_outside.specs.Disks.{DiskLog, Pages}
 use Rattle.sq_outside.specs.Faults.{Rose}
-use Rattle.sq_pool.specs.Trust.{Tells, known}
+use Rattle.sq_pool.specs.Trust.{IsLater, Tells, known}
 use Rattle.sq_paged.specs.Fronts.{IsPopped}
 use Rattle.sq_queue.specs.declared.Queues.{Queues}
-use Rattle.sq_paged.specs.declared.store.QueueErr.{QueueErr}
-use Rattle.sq_paged.specs.declared.store.QueueErr.TheVariants as queue
-use Rattle.sq_queue.specs.Faces.{IsFirst, IsRefusal, face, frames, items_on, Together}
+use Rattle.sq_bring.specs.declared.bring.QueueErr.{QueueErr}
+use Rattle.sq_bring.specs.declared.bring.QueueErr.TheVariants as queue
+use Rattle.sq_queue.specs.Faces.{IsFirst, IsRefusal, face, size, frames, items_on, Together}
 use Rattle.sq_flow.specs.declared.wires.Arc.{Arc}
 use Rattle.sq_flow.specs.declared.seats.Seat.{Seat}
 use Rattle.sq_flow.specs.declared.flow.Flow.{Flow}
@@ -95,8 +95,24 @@ pub record FailsOver (queues : Queues) (was is : DiskLog) (before now : ℕ) (e 
   pub cause : IsQueueCause queues was is before now e
   pub honest : Tells (known is) → NotChanged was.honest e
 
+-- a call over a disk: it forgets nothing, and no count of faults falls
+pub record LogGrows (was is : DiskLog) (before now : ℕ) : Type 0 where
+  pub later : IsLater was is
+  pub faults : before ≤ now
+
+-- an item may be taken from an arc: one stands there
+pub record MayTake (queues : Queues) (was : Option Pages) (arc : ℕ) : Type 0 where
+  pub there : arc < size queues
+  pub some : is_some (face queues arc).first ≡ true
+  pub together : Together queues was
+
+-- one arc alone was touched
+pub record TouchesArc (arc : ℕ) (before after : Queues) : Type 0 where
+  pub faces : (other : ℕ) → other ≢ arc → face after other ≡ face before other
+  pub size : size after ≡ size before
+
 -- an item was taken from an arc, and it may be fed; the other arcs have what they had
-pub record TakesItem (was is : DiskLog) (before queues : Queues) (at : Arc) (arc port : ℕ) (place : Moment) (clock : ℕ) (item : Item) : Type 0 where
+pub record TakesItem (was is : DiskLog) (before queues : Queues) (at : Arc) (arc port : ℕ) (place : Position) (clock : ℕ) (item : Item) : Type 0 where
   pub sound : IsSoundItem item
   pub may_be_fed : MayBeFed at port place clock item
   pub taken : HasTaken was is before queues arc item
@@ -107,7 +123,7 @@ pub record TakesItem (was is : DiskLog) (before queues : Queues) (at : Arc) (arc
 
 -- none was taken that may be fed: the call over the queues failed, or the item may not be fed. Where the disk is known behind it, and the
 -- item that stands first may be fed, no disk that is known brings about another error
-pub record TakesNone (was is : DiskLog) (faults faults' : ℕ) (before queues : Queues) (at : Arc) (arc port : ℕ) (place : Moment) (clock : ℕ) (e : RunErr) : Type 0 where
+pub record TakesNone (was is : DiskLog) (faults faults' : ℕ) (before queues : Queues) (at : Arc) (arc port : ℕ) (place : Position) (clock : ℕ) (e : RunErr) : Type 0 where
   pub cause : IsQueueCause queues was is faults faults' e
       ⊎ ((item : Item) × (e ≡ error.Strange arc item) × HasTaken was is before queues arc item × ¬ (MayBeFed at port place clock item))
   pub honest : Tells (known is) → ((item : Item) (more : List Item) → items_on before (known was) arc ≡ item ∷ more → MayBeFed at port place clock item)

@@ -54,6 +54,11 @@ pub record HasSeats {O : Type 0} (engine : Engine O) : Type 0 where
   pub actors : engine.ready.actors ≡ length engine.flow.seats.items + 1
   pub waits : length engine.waits.items ≡ length engine.flow.seats.items + 1
 
+-- its actors may be looked at
+pub record MayLook {O : Type 0} (m : Ghosts O) (engine : Engine O) : Type 0 where
+  pub flow : IsFlow m engine.flow
+  pub room : HasSeats engine
+
 pub record IsEngine {O : Type 0} (m : Ghosts O) (engine : Engine O) : Type 0 where
   pub flow : IsFlow m engine.flow
   pub room : HasSeats engine

@@ -28,7 +28,7 @@ pub record MayFeed {O : Type 0} (m : Ghosts O) (levels : LevelTable) (port : ℕ
   pub has_room : (m.taken seat.op < 2 ^ 62 - 1) × (seat.tally.taken < 2 ^ 62 - 1)
 
 -- what an actor gave, these items and these batches, went into the queues, or was shown
-pub record GoesOnward (wires : Wires) (actor : ℕ) (items : List (ℕ × Item)) (drops : List Decision) (queues queues' : Queues) (was is : Option Pages)
+pub record PassedOn (wires : Wires) (actor : ℕ) (items : List (ℕ × Item)) (drops : List Decision) (queues queues' : Queues) (was is : Option Pages)
     (events events' : List Event) : Type 0 where
   pub sent : Pushes queues queues' was is (sent_to wires actor items) (λ time. AllOutsFine time items) (is_sent_by wires actor)
   pub shown : IsShown wires actor items drops events events'
@@ -39,7 +39,7 @@ pub record FeedsInto {O : Type 0} (m : Ghosts O) (levels : LevelTable) (port : �
   pub items : List (ℕ × Item)
   pub drops : List Decision
   pub fed : FedSeat m levels port item items drops seat seat'
-  pub onward : GoesOnward wires actor items drops queues queues' was is events events'
+  pub onward : PassedOn wires actor items drops queues queues' was is events events'
 
 -- a feed that failed: what it gave before is the beginning of what the operator will give
 pub record FeedsPart {O : Type 0} (m : Ghosts O) (levels : LevelTable) (port : ℕ) (item : Item) (wires : Wires) (actor : ℕ) (seat : Seat O)
@@ -58,7 +58,7 @@ pub record EndsInto {O : Type 0} (m : Ghosts O) (wires : Wires) (actor : ℕ)
   pub items : List (ℕ × Item)
   pub drops : List Decision
   pub finished : FinishedSeat m items drops seat seat'
-  pub onward : GoesOnward wires actor items drops queues queues' was is events events'
+  pub onward : PassedOn wires actor items drops queues queues' was is events events'
 
 pub record EndsPart {O : Type 0} (m : Ghosts O) (wires : Wires) (actor : ℕ) (seat : Seat O) (events events' : List Event) : Type 0 where
   pub items : List (ℕ × Item)

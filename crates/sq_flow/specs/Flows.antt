@@ -26,7 +26,7 @@ use Rattle.sq_flow.specs.declared.flow.Did.TheVariants.{Waits, Fed, Finished}
 use Rattle.sq_flow.specs.Takes.{NotChanged}
 use Rattle.sq_flow.specs.Causes.{IsFeedCause}
 use Rattle.sq_flow.specs.Wiring.{net_of, from_of, arcs_read, IsOwn, IsShaped}
-use Rattle.sq_flow.specs.Seats.{rest_at, decides_at, lost_at, taken_at, fed_items_at, moment_at, done_at, holds_at, IsSeat, Owns}
+use Rattle.sq_flow.specs.Seats.{rest_at, decides_at, lost_at, taken_at, fed_items_at, position_at, done_at, holds_at, IsSeat, Owns}
 use Rattle.sq_flow.specs.Events.{lines_of, drops_of, ShowsIn}
 use Rattle.sq_flow.specs.Plans.{IsPlanned, plans_left, plans_of}
 
@@ -46,7 +46,7 @@ world_of m table items flow =
       decide = λ actor. decides_at m table (slice_get flow.seats.items actor);
       lost = λ actor. lost_at m (slice_get flow.seats.items actor);
       taken = λ actor. taken_at m (slice_get flow.seats.items actor);
-      place = λ actor. moment_at m (slice_get flow.seats.items actor);
+      place = λ actor. position_at m (slice_get flow.seats.items actor);
       done = λ actor. done_at flow.over (slice_get flow.seats.items actor);
       queue = λ arc. spread_all (items arc);
       source = λ port. things (to_release flow port);

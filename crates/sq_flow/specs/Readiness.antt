@@ -9,11 +9,17 @@ use Rattle.sq_flow.specs.declared.flow.Did.{Did}
 use Rattle.sq_flow.specs.declared.flow.Did.TheVariants.{Waits, Fed, Finished}
 use Rattle.sq_flow.specs.Wiring.{arcs_read, from_of, to_of}
 use Rattle.sq_flow.specs.Seats.{done_at}
-use Rattle.sq_flow.specs.Flows.{count_all}
+use Rattle.sq_flow.specs.Flows.{IsFlow, count_all}
+use Rattle.sq_oper.specs.declared.operator.Operator.{Ghosts}
 
 -- an item stands first on the arc, or the arc has ended
 abbrev pub stands : Face → Bool
 stands f = is_some f.first || f.ended
+
+-- an actor of a sound flow
+pub record HasActor {O : Type 0} (m : Ghosts O) (e : Flow O) (actor : ℕ) : Type 0 where
+  pub flow : IsFlow m e
+  pub actor_in : actor ≤ length e.seats.items
 
 -- an actor that isn't finished and waits for no arc
 pub record IsReady {O : Type 0} (flow : Flow O) (actor : ℕ) : Type 0 where

@@ -4,8 +4,8 @@ use Rattle.std.specs.List.{AllByRecursion}
 use Rattle.sq_value.specs.declared.Value.{Value}
 use Rattle.sq_item.specs.Things.{Thing}
 use Rattle.sq_oper.specs.declared.operator.Operator.{Ghosts}
-use Rattle.sq_oper.specs.declared.tally.Moment.{Moment}
-use Rattle.sq_oper.specs.declared.tally.Moment.TheVariants.{Start}
+use Rattle.sq_oper.specs.declared.tally.Position.{Position}
+use Rattle.sq_oper.specs.declared.tally.Position.TheVariants.{Start}
 use Rattle.sq_oper.specs.declared.outs.Decision.{Decision}
 use Rattle.sq_oper.specs.Entries.{Entry, entries}
 use Rattle.sq_item.specs.declared.Item.{Item}
@@ -40,9 +40,9 @@ abbrev pub fed_items_at : {O : Type 0} → Option (Seat O) → List (ℕ × Item
 fed_items_at None = []
 fed_items_at (Some seat) = seat.fed.items
 
-abbrev pub moment_at : {O : Type 0} → Ghosts O → Option (Seat O) → Moment
-moment_at m None = Start
-moment_at m (Some seat) = m.place seat.op
+abbrev pub position_at : {O : Type 0} → Ghosts O → Option (Seat O) → Position
+position_at m None = Start
+position_at m (Some seat) = m.place seat.op
 
 -- an operator is finished; behind the operators stands the replay
 abbrev pub done_at : {O : Type 0} → Bool → Option (Seat O) → Bool

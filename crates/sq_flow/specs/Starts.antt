@@ -1,9 +1,11 @@
 -- Seats to which nothing was fed.
-use Rattle.std.specs.Prelude.{◌≡◌, ℕ, ◌^◌, ◌<◌, ◌≤◌, Bool, true, false, List, [], length, Option, None, Vec, slice_get}
+use Rattle.std.specs.Prelude.{◌≡◌, ℕ, ◌^◌, ◌<◌, ◌≤◌, Bool, true, false, List, [], length, map, Option, None, Vec, slice_get}
 use Rattle.sq_value.specs.declared.Value.{Value}
-use Rattle.std.specs.List.{AllByRecursion}
+use Rattle.std.specs.List.{AllByRecursion, flat_map}
+use Rattle.sq_words.specs.Lists.{numbers_to}
+use Rattle.sq_plan.specs.PlanRows.{shown_after}
 use Rattle.sq_oper.specs.declared.operator.Operator.{Ghosts}
-use Rattle.sq_oper.specs.declared.tally.Moment.TheVariants.{Start}
+use Rattle.sq_oper.specs.declared.tally.Position.TheVariants.{Start}
 use Rattle.sq_oper.specs.declared.outs.Decision.{Decision}
 use Rattle.sq_oper.specs.Entries.{Entry}
 use Rattle.sq_oper.specs.Order.{IsFuture}
@@ -16,8 +18,10 @@ use Rattle.sq_replay.specs.RecordedTuples.{Recorded}
 use Rattle.sq_flow.specs.declared.wires.Wires.{Wires}
 use Rattle.sq_flow.specs.declared.flow.Flow.{Flow}
 use Rattle.sq_flow.specs.declared.seats.Seat.{Seat}
-use Rattle.sq_flow.specs.Flows.{tuples_to_come, RiseFrom}
-use Rattle.sq_flow.specs.Seats.{FitsArcs}
+use Rattle.sq_flow.specs.Flows.{tuples_to_come, RiseFrom, IsFlow}
+use Rattle.sq_flow.specs.Plans.{IsPlanned, arrivals, last_arrival, plans_left}
+use Rattle.sq_flow.specs.Seats.{FitsArcs, holds_at}
+use Rattle.sq_flow.specs.Wiring.{net_of, IsOwn, IsShaped}
 
 -- the operator is new and fits its arcs, all that it may decide is its own, and levels of epochs of so many ticks may be read
 pub record IsNewSeat {O : Type 0} (m : Ghosts O) (takes : ℕ → Bool) (fits : ℕ → List Value → Bool) (own : Decision → Type 0) (epoch : ℕ)
@@ -40,6 +44,14 @@ pub record AreNewSources (sources : List Recorded) : Type 0 where
   pub few : length sources < 2 ^ 32
   pub few_tuples : (source : ℕ) → length (tuples_to_come (slice_get sources source)) ≤ 1000000
 
+-- the parts of a new flow: the operators are joined by these wires, nothing was fed to them, and no level is known
+pub record AreNewParts {O : Type 0} (m : Ghosts O) (wires : Wires) (ops : List (Seat O)) (streams : List Recorded) (table : LevelTable) (most : ℕ) : Type 0 where
+  pub shaped : IsShaped wires (length ops)
+  pub seats : (actor : ℕ) → holds_at (IsNewSeat m ((net_of wires).takes actor) ((net_of wires).fits actor) (IsOwn wires actor) table.epoch) (slice_get ops actor)
+  pub sources : AreNewSources streams
+  pub levels : (table.closed ≡ 1) × (table.rows ≡ [])
+  pub frames : 2 ≤ most
+
 -- a flow of these parts that has released nothing, with so many pages in memory at most
 pub record IsNewFlow {O : Type 0} (wires : Wires) (seats : Vec (Seat O) Global) (sources : Vec Recorded Global)
     (planner : Setting) (levels : LevelTable) (most : ℕ) (flow : Flow O) : Type 0 where
@@ -54,3 +66,12 @@ pub record IsNewFlow {O : Type 0} (wires : Wires) (seats : Vec (Seat O) Global) 
   pub bare : (arc : ℕ) → face flow.queues arc ≡ record { count = 0; first = None; ended = false }
   pub empty : (pages : Option Pages) (arc : ℕ) → items_on flow.queues pages arc ≡ []
   pub together : (pages : Option Pages) → Together flow.queues pages
+
+-- it is sound, and all its plans are still to be shown
+pub record BeginsFlow {O : Type 0} (m : Ghosts O) (wires : Wires) (seats : Vec (Seat O) Global) (sources : Vec Recorded Global)
+    (planner : Setting) (levels : LevelTable) (most : ℕ) (e : Flow O) : Type 0 where
+  pub flow : IsFlow m e
+  pub parts : IsNewFlow wires seats sources planner levels most e
+  pub planned : IsPlanned (arrivals levels.epoch (map (λ s. s.items) sources.items)) e
+  pub plans : plans_left e ≡ flat_map (shown_after planner (arrivals levels.epoch (map (λ s. s.items) sources.items)))
+      (numbers_to (last_arrival levels.epoch (map (λ s. s.items) sources.items)))

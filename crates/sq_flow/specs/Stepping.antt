@@ -1,9 +1,10 @@
 -- What the calls that take steps promise, between two moments of a run.
 --     stage ..                 what stands at one moment
 --     Proceeds m actor a b     calls of one actor that ended Ok lead from a to b
+--     MayStep, HasNext         what a step asks
 --     StepOk, TrainOk          one step, and a train of steps
 --     StepErr m a b e          a step, or a train, that failed with e
-use Rattle.std.specs.Prelude.{◌≡◌, ◌⊎◌, ℕ, ◌≤◌, true, false, List, Option, slice_get}
+use Rattle.std.specs.Prelude.{◌≡◌, ◌⊎◌, ℕ, ◌≤◌, ◌<◌, true, false, List, length, Option, None, slice_get}
 use Rattle.sq_outside.specs.Disks.{DiskLog, Pages}
 use Rattle.sq_outside.specs.declared.PageDisk.{Ghosts as DiskGhosts}
 use Rattle.sq_words.specs.Lists.{IsPrefixOf}
@@ -11,7 +12,10 @@ use Rattle.sq_road.specs.Levels.{AgreesWith}
 use Rattle.sq_oper.specs.declared.operator.Operator.{Ghosts}
 use Rattle.sq_oper.specs.declared.outs.Event.{Event}
 use Rattle.sq_pool.specs.Trust.{IsLater, known}
-use Rattle.sq_queue.specs.Faces.{Together}
+use Rattle.sq_queue.specs.Faces.{face, Together}
+use Rattle.sq_heads.specs.declared.Next.{Next}
+use Rattle.sq_heads.specs.declared.Next.TheVariants.{Feed}
+use Rattle.sq_heads.specs.Heads.{NextUpTo}
 use Rattle.sq_flow.specs.declared.flow.Flow.{Flow}
 use Rattle.sq_flow.specs.declared.flow.Did.{Did}
 use Rattle.sq_flow.specs.declared.steps.Progress.{Progress}
@@ -21,6 +25,7 @@ use Rattle.sq_flow.specs.Plans.{PlansPrefix}
 use Rattle.sq_flow.specs.Causes.{IsCauseIn}
 use Rattle.sq_flow.specs.Readiness.{IsReady, TouchesOnly, WaitsOnly, FallsBy, Took, TookBy}
 use Rattle.sq_flow.specs.Seats.{done_at}
+use Rattle.sq_flow.specs.Wiring.{arcs_read}
 
 -- a run at one moment: its flow, what its disk has noted, and how often it has failed, what was shown, and the steps taken
 pub record Stage (O : Type 0) : Type 0 where
@@ -37,6 +42,21 @@ stage tells flow disk events steps = record { flow = flow; log = tells.log disk;
 pub record Holds {O : Type 0} (m : Ghosts O) (e : Flow O) (was : Option Pages) : Type 0 where
   pub flow : IsFlow m e
   pub together : Together e.queues was
+
+-- what a step asks: such a flow, and that no fault was met
+pub record MayStep {O : Type 0} (m : Ghosts O) (e : Flow O) (was : Option Pages) (failed : Option RunErr) : Type 0 where
+  pub holds : Holds m e was
+  pub whole : failed ≡ None
+
+-- an operator that isn't finished, and what comes next on the arcs that it reads
+pub record HasNext {O : Type 0} (e : Flow O) (actor : ℕ) (next : Next) : Type 0 where
+  pub actor_in : actor < length e.seats.items
+  pub head : NextUpTo (arcs_read e.wires actor) (λ a. (face e.queues a).first) (λ a. (face e.queues a).ended) (length (arcs_read e.wires actor)) next
+  pub running : done_at e.over (slice_get e.seats.items actor) ≡ false
+
+pub record HasFeed {O : Type 0} (e : Flow O) (actor port arc : ℕ) : Type 0 where
+  pub time : ℕ
+  pub next : HasNext e actor (Feed time port arc)
 
 -- what any call keeps: the disk forgets nothing, no count of faults falls, and nothing that was shown is taken back
 pub record Remains {O : Type 0} (before after : Stage O) : Type 0 where
@@ -57,6 +77,11 @@ pub record StepOk {O : Type 0} (m : Ghosts O) (actor : ℕ) (did : Did) (before 
   pub lowers : Lowers did (measure_of before.flow) (measure_of after.flow)
   pub took : TookBy actor did before.flow after.flow
   pub waits : WaitsOnly did ((IsReady before.flow actor → ⊥) × (after.flow ≡ before.flow))
+
+-- and it met no fault
+pub record StepWhole {O : Type 0} (m : Ghosts O) (actor : ℕ) (did : Did) (before after : Stage O) (failed : Option RunErr) : Type 0 where
+  pub step : StepOk m actor did before after
+  pub whole : failed ≡ None
 
 -- a step that touched nothing outside, whatever is known of the pages and was shown before it. It fed nothing
 pub record StepsAlone {O : Type 0} (m : Ghosts O) (actor : ℕ) (did : Did) (flow flow' : Flow O) : Type 0 where

@@ -5,8 +5,8 @@ use Rattle.sq_value.specs.declared.Value.{Value}
 use Rattle.sq_value.specs.Values.{kinds_fit}
 use Rattle.sq_item.specs.declared.Item.{Item}
 use Rattle.sq_item.specs.declared.Mark.{Mark}
-use Rattle.sq_oper.specs.declared.tally.Moment.{Moment}
-use Rattle.sq_oper.specs.declared.tally.Moment.TheVariants.{Start, At}
+use Rattle.sq_oper.specs.declared.tally.Position.{Position}
+use Rattle.sq_oper.specs.declared.tally.Position.TheVariants.{Start, At}
 use Rattle.sq_oper.specs.Entries.{entries}
 use Rattle.sq_oper.specs.Order.{IsFuture}
 use Rattle.sq_flow.specs.declared.wires.Arc.{Arc}
@@ -20,12 +20,12 @@ abbrev pub fits_of : Arc → ℕ → List Value → Bool
 fits_of at port fields = kinds_fit at.kinds fields
 
 -- an item may come from an arc to a port of an operator that stands at this place
-pub record MayBeFed (at : Arc) (port : ℕ) (place : Moment) (clock : ℕ) (item : Item) : Type 0 where
+pub record MayBeFed (at : Arc) (port : ℕ) (place : Position) (clock : ℕ) (item : Item) : Type 0 where
   pub in_time : item.time ≤ clock
   pub future : IsFuture (takes_of at) (fits_of at) place (entries port item)
 
 -- what begins with a mark, or with a tuple, may stand here
-abbrev pub may_stand : Moment → ℕ → ℕ → Bool → Bool
+abbrev pub may_stand : Position → ℕ → ℕ → Bool → Bool
 may_stand Start port time mark = true
 may_stand (At last before marked) port time mark =
     nat_lt last time || (last == time && (if mark then marked && nat_lt before port else nat_le before port))

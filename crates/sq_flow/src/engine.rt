@@ -1,12 +1,11 @@
 //! The engine: a flow with its ready list.
 
-ghost use Rattle.std.specs.Prelude.{◌≡◌, ◌⊎◌, ◌-◌, ℕ, ◌+◌, ◌≤◌, ◌<◌, true, false, [], ◌∷◌, Option, Some, OnOk, OnErr, IfOk, IfErr, length, map, slice_get};
-ghost use Rattle.sq_road.specs.Levels.{AgreesWith};
+ghost use Rattle.std.specs.Prelude.{◌≡◌, ◌-◌, ℕ, ◌+◌, ◌≤◌, ◌<◌, true, false, [], ◌∷◌, Option, Some, OnErr, IfOk, IfErr, length, map, slice_get};
 ghost use Rattle.sq_outside.specs.Disks.{Pages};
-ghost use Rattle.sq_pool.specs.Trust.{IsLater, known};
+ghost use Rattle.sq_pool.specs.Trust.{known};
 ghost use Rattle.sq_queue.specs.Faces.{Together};
 ghost use Rattle.std.specs.List.{flat_map, range_with_len};
-ghost use Rattle.sq_words.specs.Lists.{IsPrefixOf, numbers_to, contains_number};
+ghost use Rattle.sq_words.specs.Lists.{numbers_to, contains_number};
 ghost use Rattle.sq_plan.specs.PlanRows.{shown_after};
 ghost use Rattle.sq_flow.specs.Engines.{seat_number};
 
@@ -63,13 +62,11 @@ fn seat_number(ops: u32, actor: u32) -> u32
 }
 
 impl<O: Operator + Drop> Engine<O> {
-    ghost use Rattle.sq_flow.specs.Flows.{IsFlow, HoldsItems, items_in, lines_left, decisions_left};
-    ghost use Rattle.sq_flow.specs.Flows.{fed_at_last, lost_at_last};
-    ghost use Rattle.sq_flow.specs.Flows.{work_at_last, taken_in_all, left_on};
+    ghost use Rattle.sq_flow.specs.Flows.{IsFlow, HoldsItems, items_in, lines_left, decisions_left, fed_at_last, lost_at_last, work_at_last, taken_in_all, left_on};
     ghost use Rattle.sq_flow.specs.Plans.{IsPlanned, arrivals, last_arrival, plans_left};
     ghost use Rattle.sq_flow.specs.Stepping.{stage, StepErr};
     ghost use Rattle.sq_flow.specs.EngineSteps.{EngineOk};
-    ghost use Rattle.sq_flow.specs.Engines.{IsEngine, HasSeats, Looked, AllDone, newly_ready, readers_of};
+    ghost use Rattle.sq_flow.specs.Engines.{IsEngine, MayLook, Looked, AllDone, newly_ready, readers_of};
     ghost use Rattle.sq_flow.specs.Seats.{taken_at, lost_at, holds_at};
     ghost use Rattle.sq_flow.specs.Starts.{IsNewSeat, AreNewSources, IsNewFlow};
     ghost use Rattle.sq_flow.specs.Wiring.{net_of, arcs_read, IsOwn, IsShaped};
@@ -115,8 +112,7 @@ impl<O: Operator + Drop> Engine<O> {
     /// Looks at an actor: counts what waits for it, and lists it last where it is ready and isn't listed.
     #[inline(always)]
     fn look_at(&mut self, actor: u32)
-        requires flow { IsFlow O.Operator self.old.flow }
-        requires room { HasSeats self.old }
+        requires looks { MayLook O.Operator self.old }
         requires there { actor ≤ length self.old.flow.seats.items }
         ensures { Looked (actor ∷ []) self.old self.new }
     {
@@ -129,8 +125,7 @@ impl<O: Operator + Drop> Engine<O> {
 
     /// Looks at each actor, in ascending number.
     fn look_at_all(&mut self)
-        requires flow { IsFlow O.Operator self.old.flow }
-        requires room { HasSeats self.old }
+        requires looks { MayLook O.Operator self.old }
         ensures { Looked (range_with_len 0 (length self.old.flow.seats.items + 1)) self.old self.new }
     {
         for actor in 0..self.flow.wires.replay + 1 {
@@ -140,8 +135,7 @@ impl<O: Operator + Drop> Engine<O> {
 
     /// Looks at the operators that read from the actor at a place, in ascending number.
     fn look_at_readers(&mut self, place: u32)
-        requires flow { IsFlow O.Operator self.old.flow }
-        requires room { HasSeats self.old }
+        requires looks { MayLook O.Operator self.old }
         requires there { place ≤ length self.old.flow.seats.items }
         ensures { Looked (readers_of self.old.flow place) self.old self.new }
     {
@@ -228,7 +222,7 @@ impl<O: Operator + Drop> Engine<O> {
         }
     }
 
-    /// Where all actors are finished nothing is left of any output, drop or arc, and each operator was fed all that it is fed in all.
+    /// Where all actors are finished nothing is pending of any output, drop or arc, and each operator was fed all that it is fed in all.
     pub fn nothing_left(&self)
         requires engine { IsFlow O.Operator self.now.flow }
         requires done { AllDone self.now.flow }

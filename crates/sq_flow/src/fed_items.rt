@@ -1,4 +1,4 @@
-//! What an operator was fed, which clauses alone read.
+//! What an operator was fed, or gave, which clauses alone read.
 
 ghost use Rattle.std.specs.Prelude.{◌≡◌, ℕ, List, [], ◌∷◌, ◌++◌};
 ghost use Rattle.std.specs.Borrow.{ftrue};
@@ -7,10 +7,11 @@ ghost use Rattle.sq_item.specs.declared.Item.{Item};
 use sq_item::Item;
 use std::marker::{Model, PhantomData};
 
-/// The items that an operator was fed, each with its port, in order.
+/// The items that an operator was fed, or that it gave, each with its port, in order.
 ///
 /// No memory holds the list, and the functions do nothing at run time: what stands in it says nothing by itself. The feed that
-/// puts an item there promises that the operator was fed this one, at this port (`FedSeat`).
+/// puts an item there promises that the operator was fed this one, at this port (`FedSeat`), and the outlet that does so that
+/// all that was given, and no more, stands in the queues or was shown (`Came`).
 #[derive(Drop)]
 pub struct FedItems {
     marker: PhantomData<u8>,

@@ -1,20 +1,15 @@
 //! The run of operators, one atomic step at a time.
 
-ghost use Rattle.sq_words.specs.Lists.{IsPrefixOf};
-ghost use Rattle.std.specs.Prelude.{◌≡◌, ◌≢◌, ℕ, ◌+◌, ◌-◌, ◌^◌, ◌/◌, ◌<◌, ◌∷◌, ◌==◌, ◌||◌, true, false, [], Option, Some, None, OnOk};
-ghost use Rattle.std.specs.Prelude.{OnErr, IfOk, IfErr, IfSome, length, slice_get, if◌then◌else◌};
-ghost use Rattle.sq_oper.specs.declared.outs.Event.{Event};
-ghost use Rattle.sq_outside.specs.Disks.{Pages};
-ghost use Rattle.sq_pool.specs.Trust.{IsLater, known};
-ghost use Rattle.sq_queue.specs.Faces.{face, size, frames, items_on, Together};
-ghost use Rattle.sq_flow.specs.Wiring.{from_of};
-ghost use Rattle.sq_flow.specs.Sends.{is_sent_by};
+ghost use Rattle.std.specs.Prelude.{◌≡◌, ◌≢◌, ℕ, ◌^◌, ◌<◌, ◌∷◌, ◌||◌, false, [], OnOk, OnErr, IfOk, IfErr, IfSome, length, slice_get};
+ghost use Rattle.sq_pool.specs.Trust.{known};
+ghost use Rattle.sq_queue.specs.Faces.{face, size};
+ghost use Rattle.sq_flow.specs.Sends.{KeepsItems, EndsOnly};
 ghost use Rattle.sq_flow.specs.Flows.{tuples_to_come};
 ghost use Rattle.sq_flow.specs.Sources.{IsNextSource};
 
 use crate::errors::RunErr;
-use crate::onward::fault_of;
 use crate::plans::{close_before, epoch_of};
+use crate::queue_outlet::fault_of;
 use crate::seats::{Seat, feed_into, finish_into};
 use crate::sending::send_one;
 use crate::taking::{count_item, take_item};
@@ -27,7 +22,7 @@ use sq_plan::Planner;
 use sq_queue::{ArcQueues, Queues};
 use sq_replay::Stream;
 use sq_road::Levels;
-use sq_value::Tuple;
+use sq_value::{Tuple, Value};
 use std::alloc::AllocError;
 use std::sync::ledger::Ledger;
 
@@ -91,13 +86,14 @@ pub(crate) fn next_source(sources: &Vec<Stream>) -> Option<u32>
     best
 }
 
-/// Takes the first tuple of a source that has one left.
-fn first_of(stream: &mut Stream) -> Result<Tuple, AllocError>
-    requires { 0 < length stream.old.items }
+/// Takes the first tuple of a source that has one left. The values of the one behind it may lie in a vector that has none.
+fn first_of(stream: &mut Stream, values: Vec<Value>) -> Result<Tuple, AllocError>
+    requires some { 0 < length stream.old.items }
+    requires empty { values.items ≡ [] }
     ensures ok { IfOk result (λ tuple. stream.old.items ≡ tuple ∷ stream.new.items) }
     ensures err { OnErr result (stream.new ≡ stream.old) }
 {
-    match stream.take()? {
+    match stream.take_into(values)? {
         Some(tuple) => Ok(tuple),
         None => unreachable!(),
     }
@@ -106,14 +102,10 @@ fn first_of(stream: &mut Stream) -> Result<Tuple, AllocError>
 /// An arc ends if this is so.
 fn end_if(queues: &mut Queues, arc: u32, ends: bool)
     requires { arc < size queues.old }
-    ensures size { size queues.new ≡ size queues.old }
+    ensures keeps { KeepsItems queues.old queues.new }
     ensures ended { (face queues.new arc).ended ≡ ((face queues.old arc).ended || ends) }
     ensures none { ends ≡ false → face queues.new arc ≡ face queues.old arc }
     ensures others { (other : ℕ) → other ≢ arc → face queues.new other ≡ face queues.old other }
-    ensures first { (other : ℕ) → (face queues.new other).first ≡ (face queues.old other).first }
-    ensures items { (pages : Option Pages) (other : ℕ) → items_on queues.new pages other ≡ items_on queues.old pages other }
-    ensures together { (pages : Option Pages) → Together queues.old pages → Together queues.new pages }
-    ensures frames { frames queues.new ≡ frames queues.old }
 {
     if ends {
         queues.end(arc);
@@ -124,14 +116,7 @@ fn end_if(queues: &mut Queues, arc: u32, ends: bool)
 fn end_arcs(wires: &Wires, queues: &mut Queues, actor: u32)
     requires lanes { size queues.old ≡ length wires.now.arcs.items }
     requires few { length wires.now.arcs.items < 2 ^ 32 }
-    ensures size { size queues.new ≡ size queues.old }
-    ensures ended { (arc : ℕ) → arc < length wires.now.arcs.items → (face queues.new arc).ended
-        ≡ ((face queues.old arc).ended || (from_of (slice_get wires.now.arcs.items arc) == actor)) }
-    ensures apart { (arc : ℕ) → is_sent_by wires.now actor arc ≡ false → face queues.new arc ≡ face queues.old arc }
-    ensures first { (arc : ℕ) → (face queues.new arc).first ≡ (face queues.old arc).first }
-    ensures items { (pages : Option Pages) (arc : ℕ) → items_on queues.new pages arc ≡ items_on queues.old pages arc }
-    ensures together { (pages : Option Pages) → Together queues.old pages → Together queues.new pages }
-    ensures frames { frames queues.new ≡ frames queues.old }
+    ensures { EndsOnly wires.now actor queues.old queues.new }
 {
     for arc in 0..wires.arcs.len() as u32 {
         end_if(queues, arc, wires.arc(arc).from == actor);
@@ -140,10 +125,7 @@ fn end_arcs(wires: &Wires, queues: &mut Queues, actor: u32)
 
 impl<O: Operator + Drop> Flow<O> {
     ghost use Rattle.sq_flow.specs.Flows.{IsFlow, to_release};
-    ghost use Rattle.sq_flow.specs.Wiring.{arcs_read};
-    ghost use Rattle.sq_heads.specs.Heads.{NextUpTo};
-    ghost use Rattle.sq_flow.specs.Seats.{done_at};
-    ghost use Rattle.sq_flow.specs.Stepping.{Holds, stage, StepOk, StepErr, StepsAlone};
+    ghost use Rattle.sq_flow.specs.Stepping.{MayStep, HasNext, HasFeed, stage, StepWhole, StepErr, StepsAlone};
 
     /// Feeds an operator the first item of an arc.
     #[inline(always)]
@@ -157,15 +139,10 @@ impl<O: Operator + Drop> Flow<O> {
         steps: &mut Steps<L>,
         failed: &mut Option<RunErr>,
     ) -> Result<(), RunErr>
-        requires holds { Holds O.Operator self.old (known (D.log disk.old)) }
-        requires whole { failed.old ≡ None }
-        requires actor_in { actor < length self.old.seats.items }
-        requires head { (time : ℕ) × NextUpTo (arcs_read self.old.wires actor)
-            (λ a. (face self.old.queues a).first) (λ a. (face self.old.queues a).ended) (length (arcs_read self.old.wires actor)) (Next.Feed time port arc) }
-        requires running { done_at self.old.over (slice_get self.old.seats.items actor) ≡ false }
-        ensures ok { OnOk result (StepOk O.Operator actor Did.Fed (stage D.PageDisk self.old disk.old events.old.items steps.old)
-            (stage D.PageDisk self.new disk.new events.new.items steps.new)) }
-        ensures whole { OnOk result (failed.new ≡ None) }
+        requires may { MayStep O.Operator self.old (known (D.log disk.old)) failed.old }
+        requires feeds { HasFeed self.old actor port arc }
+        ensures ok { OnOk result (StepWhole O.Operator actor Did.Fed (stage D.PageDisk self.old disk.old events.old.items steps.old)
+            (stage D.PageDisk self.new disk.new events.new.items steps.new) failed.new) }
         ensures err { IfErr result (StepErr O.Operator (stage D.PageDisk self.old disk.old events.old.items steps.old)
             (stage D.PageDisk self.new disk.new events.new.items steps.new)) }
     {
@@ -204,15 +181,10 @@ impl<O: Operator + Drop> Flow<O> {
         events: &mut Vec<Event>,
         failed: &mut Option<RunErr>,
     ) -> Result<(), RunErr>
-        requires holds { Holds O.Operator self.old (known (D.log disk.old)) }
-        requires whole { failed.old ≡ None }
-        requires actor_in { actor < length self.old.seats.items }
-        requires head { NextUpTo (arcs_read self.old.wires actor)
-            (λ a. (face self.old.queues a).first) (λ a. (face self.old.queues a).ended) (length (arcs_read self.old.wires actor)) Next.Ended }
-        requires running { done_at self.old.over (slice_get self.old.seats.items actor) ≡ false }
-        ensures ok { OnOk result ((n : ℕ) → StepOk O.Operator actor Did.Finished (stage D.PageDisk self.old disk.old events.old.items n)
-            (stage D.PageDisk self.new disk.new events.new.items n)) }
-        ensures whole { OnOk result (failed.new ≡ None) }
+        requires may { MayStep O.Operator self.old (known (D.log disk.old)) failed.old }
+        requires ended { HasNext self.old actor Next.Ended }
+        ensures ok { OnOk result ((n : ℕ) → StepWhole O.Operator actor Did.Finished (stage D.PageDisk self.old disk.old events.old.items n)
+            (stage D.PageDisk self.new disk.new events.new.items n) failed.new) }
         ensures err { IfErr result (λ e. (n : ℕ) → StepErr O.Operator (stage D.PageDisk self.old disk.old events.old.items n)
             (stage D.PageDisk self.new disk.new events.new.items n) e) }
     {
@@ -237,16 +209,15 @@ impl<O: Operator + Drop> Flow<O> {
         events: &mut Vec<Event>,
         failed: &mut Option<RunErr>,
     ) -> Result<(), RunErr>
-        requires holds { Holds O.Operator self.old (known (D.log disk.old)) }
-        requires whole { failed.old ≡ None }
+        requires may { MayStep O.Operator self.old (known (D.log disk.old)) failed.old }
         requires next { IsNextSource self.old.sources.items source }
-        ensures ok { OnOk result ((n : ℕ) → StepOk O.Operator (length self.old.seats.items) Did.Fed (stage D.PageDisk self.old disk.old events.old.items n)
-            (stage D.PageDisk self.new disk.new events.new.items n)) }
-        ensures whole { OnOk result (failed.new ≡ None) }
+        ensures ok { OnOk result ((n : ℕ) → StepWhole O.Operator (length self.old.seats.items) Did.Fed (stage D.PageDisk self.old disk.old events.old.items n)
+            (stage D.PageDisk self.new disk.new events.new.items n) failed.new) }
         ensures err { IfErr result (λ e. (n : ℕ) → StepErr O.Operator (stage D.PageDisk self.old disk.old events.old.items n)
             (stage D.PageDisk self.new disk.new events.new.items n) e) }
     {
-        let tuple = first_of(&mut self.sources[source as usize])?;
+        let values = self.queues.spares.reuse(*events.allocator());
+        let tuple = first_of(&mut self.sources[source as usize], values)?;
         self.clock = tuple.time;
         let next = epoch_of(tuple.time, self.levels.epoch(), self.levels.closed());
         close_before(

@@ -1,10 +1,7 @@
 //! What is closed before a tuple of a later epoch is released.
 
-ghost use Rattle.sq_words.specs.Lists.{IsPrefixOf};
-ghost use Rattle.std.specs.Prelude.{◌≡◌, ℕ, ◌+◌, ◌-◌, ◌≤◌, ◌<◌, ◌++◌, ◌^◌, ◌/◌, length, replicate, OnOk, OnErr, IfOk};
-ghost use Rattle.sq_plan.specs.Flows.{AreCounts};
-ghost use Rattle.sq_plan.specs.PlanRows.{listed};
-ghost use Rattle.sq_flow.specs.Events.{lines_of, drops_of, ShowsIn};
+ghost use Rattle.std.specs.Prelude.{◌≡◌, ◌+◌, ◌-◌, ◌≤◌, ◌<◌, ◌++◌, ◌^◌, ◌/◌, length, replicate, OnOk, OnErr, IfOk};
+ghost use Rattle.sq_flow.specs.Events.{plan_of};
 ghost use Rattle.sq_flow.specs.Plans.{plans_of};
 ghost use Rattle.sq_flow.specs.Closes.{ClosesSome, ClosesAll};
 
@@ -23,12 +20,8 @@ pub(crate) fn no_counts(alloc: Global, sources: &Vec<Stream>) -> Result<Vec<u64>
 
 /// Shows a plan, if there is one.
 fn show_plan(plan: Option<Shown>, events: &mut Vec<Event>) -> Result<(), AllocError>
-    ensures plans { OnOk result (plans_of events.new.items ≡ plans_of events.old.items ++ listed plan) }
+    ensures ok { OnOk result (events.new.items ≡ events.old.items ++ plan_of plan) }
     ensures err { OnErr result (events.new.items ≡ events.old.items) }
-    ensures lines { (o : ℕ) → lines_of o events.new.items ≡ lines_of o events.old.items }
-    ensures drops { (w : ℕ) → drops_of w events.new.items ≡ drops_of w events.old.items }
-    ensures within { (outputs drops : ℕ) → ShowsIn outputs drops events.old.items events.new.items }
-    ensures stay { IsPrefixOf events.old.items events.new.items }
 {
     if let Some(shown) = plan {
         events.push(Event::Plan {
@@ -63,7 +56,6 @@ pub(crate) fn close_before(
     next: u64,
     events: &mut Vec<Event>,
 ) -> Result<(), AllocError>
-    requires counts { AreCounts counts.old.items }
     requires later { levels.old.closed ≤ next + 1 }
     requires fits { next < 2 ^ 64 - 1 }
     ensures closes { ClosesSome planner.old planner.new levels.old levels.new counts.old.items next events.old.items events.new.items }

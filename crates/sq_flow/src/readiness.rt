@@ -45,14 +45,12 @@ fn count_waiting(arcs: &Vec<u32>, queues: &Queues) -> u64
 }
 
 impl<O: Operator + Drop> Flow<O> {
-    ghost use Rattle.sq_flow.specs.Flows.{IsFlow};
-    ghost use Rattle.sq_flow.specs.Readiness.{is_ready, waiting};
+    ghost use Rattle.sq_flow.specs.Readiness.{HasActor, is_ready, waiting};
     ghost use Rattle.sq_flow.specs.Engines.{readers_of};
 
     /// An actor is ready.
     pub(crate) fn is_ready(&self, actor: u32) -> bool
-        requires flow { IsFlow O.Operator self.now }
-        requires actor_in { actor ≤ length self.now.seats.items }
+        requires actor { HasActor O.Operator self.now actor }
         ensures { result ≡ is_ready self.now actor }
     {
         if self.is_done(actor) {
@@ -66,8 +64,7 @@ impl<O: Operator + Drop> Flow<O> {
 
     /// How many items wait for an actor.
     pub(crate) fn waiting(&self, actor: u32) -> u64
-        requires flow { IsFlow O.Operator self.now }
-        requires actor_in { actor ≤ length self.now.seats.items }
+        requires actor { HasActor O.Operator self.now actor }
         ensures { result ≡ waiting self.now actor }
     {
         if actor == self.wires.replay {
@@ -78,8 +75,7 @@ impl<O: Operator + Drop> Flow<O> {
 
     /// How many operators read from the actor at a place.
     pub(crate) fn count_readers(&self, place: u32) -> usize
-        requires flow { IsFlow O.Operator self.now }
-        requires there { place ≤ length self.now.seats.items }
+        requires actor { HasActor O.Operator self.now place }
         ensures { result ≡ length (readers_of self.now place) }
     {
         self.wires.followers[place as usize].len()
@@ -87,8 +83,7 @@ impl<O: Operator + Drop> Flow<O> {
 
     /// One of the operators that read from the actor at a place, as an actor.
     pub(crate) fn reader(&self, place: u32, index: usize) -> u32
-        requires flow { IsFlow O.Operator self.now }
-        requires there { place ≤ length self.now.seats.items }
+        requires actor { HasActor O.Operator self.now place }
         requires within { index < length (readers_of self.now place) }
         ensures reader { result ≡ slice_index (readers_of self.now place) index }
         ensures low { result ≤ length self.now.seats.items }

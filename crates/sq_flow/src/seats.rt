@@ -1,15 +1,15 @@
 //! Operators in their seats.
 
-ghost use Rattle.std.specs.Prelude.{◌≡◌, ◌+◌, true, None, is_some, OnOk, OnErr, IfErr, ◌≤◌, if◌then◌else◌};
-ghost use Rattle.sq_pool.specs.Trust.{IsLater, known};
-ghost use Rattle.sq_flow.specs.Causes.{FailsOver};
+ghost use Rattle.std.specs.Prelude.{◌≡◌, ◌+◌, true, None, is_some, OnOk, OnErr, IfErr, if◌then◌else◌};
+ghost use Rattle.sq_pool.specs.Trust.{known};
+ghost use Rattle.sq_flow.specs.Causes.{FailsOver, LogGrows};
 ghost use Rattle.sq_flow.specs.Sends.{MayGive};
 ghost use Rattle.sq_flow.specs.Feeds.{MayFeed, FeedsInto, FeedsPart, EndsInto, EndsPart};
 
 use crate::errors::RunErr;
 use crate::fed_items::FedItems;
 use crate::noted::Noted;
-use crate::onward::{Onward, fault_of};
+use crate::queue_outlet::{QueueOutlet, fault_of};
 use crate::wires::Wires;
 use sq_item::Item;
 use sq_oper::{Event, Operator, Tally};
@@ -45,35 +45,37 @@ pub(crate) fn feed_into<O: Operator, D: PageDisk, L: Ledger>(
     requires gives { MayGive wires.now actor queues.old (known (D.log disk.old)) failed.old }
     ensures fed { OnOk result (FeedsInto O.Operator levels.now port item wires.now actor seat.old seat.new
         queues.old queues.new (known (D.log disk.old)) (known (D.log disk.new)) events.old.items events.new.items) }
-    ensures whole { OnOk result (failed.new ≡ None) }
+    ensures done { OnOk result ((failed.new ≡ None) × (steps.new ≡ steps.old + (if is_some item.body then 1 else 0))) }
     ensures part { OnErr result (FeedsPart O.Operator levels.now port item wires.now actor seat.old events.old.items events.new.items) }
     ensures fails { IfErr result (FailsOver queues.new (D.log disk.old) (D.log disk.new) (D.faults disk.old) (D.faults disk.new)) }
-    ensures faults { D.faults disk.old ≤ D.faults disk.new }
-    ensures later { IsLater (D.log disk.old) (D.log disk.new) }
-    ensures cost { OnOk result (steps.new ≡ steps.old + (if is_some item.body then 1 else 0)) }
+    ensures disk { LogGrows (D.log disk.old) (D.log disk.new) (D.faults disk.old) (D.faults disk.new) }
     ensures no_cost { OnErr result (steps.new ≡ steps.old) }
 {
     seat.tally.note(port, &item);
     seat.fed = seat.fed.with(port, &item);
-    let mut onward = Onward {
+    let given = FedItems::new();
+    let noted = Noted::new();
+    let mut outlet = QueueOutlet {
         wires,
         queues,
         disk,
         events,
         actor,
         failed,
-        noted: Noted::new(),
+        given,
+        noted,
     };
-    let done = seat.op.feed(levels, port, item, &mut onward, steps);
-    let Onward {
+    let done = seat.op.feed(levels, port, item, &mut outlet, steps);
+    let QueueOutlet {
         wires: _,
         queues,
         disk,
         events,
         actor: _,
         failed,
+        given: _,
         noted: _,
-    } = onward;
+    } = outlet;
     // No effect at run time. The proof reads what the arguments hold from these uses.
     let _ = &*queues;
     let _ = &*disk;
@@ -102,28 +104,31 @@ pub(crate) fn finish_into<O: Operator, D: PageDisk>(
     ensures whole { OnOk result (failed.new ≡ None) }
     ensures part { OnErr result (EndsPart O.Operator wires.now actor seat.old events.old.items events.new.items) }
     ensures fails { IfErr result (FailsOver queues.new (D.log disk.old) (D.log disk.new) (D.faults disk.old) (D.faults disk.new)) }
-    ensures faults { D.faults disk.old ≤ D.faults disk.new }
-    ensures later { IsLater (D.log disk.old) (D.log disk.new) }
+    ensures disk { LogGrows (D.log disk.old) (D.log disk.new) (D.faults disk.old) (D.faults disk.new) }
 {
-    let mut onward = Onward {
+    let given = FedItems::new();
+    let noted = Noted::new();
+    let mut outlet = QueueOutlet {
         wires,
         queues,
         disk,
         events,
         actor,
         failed,
-        noted: Noted::new(),
+        given,
+        noted,
     };
-    let done = seat.op.finish(&mut onward);
-    let Onward {
+    let done = seat.op.finish(&mut outlet);
+    let QueueOutlet {
         wires: _,
         queues,
         disk,
         events,
         actor: _,
         failed,
+        given: _,
         noted: _,
-    } = onward;
+    } = outlet;
     // No effect at run time. The proof reads what the arguments hold from these uses.
     let _ = &*queues;
     let _ = &*disk;

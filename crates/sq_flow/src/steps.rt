@@ -1,11 +1,7 @@
 //! Steps of any actor, and trains of them.
 
-ghost use Rattle.sq_words.specs.Lists.{IsPrefixOf};
-ghost use Rattle.std.specs.Prelude.{◌≡◌, ◌≢◌, ◌⊎◌, ℕ, ◌+◌, ◌≤◌, ◌<◌, true, false, [], None, OnOk, OnErr, IfOk, IfErr, length, slice_get};
-ghost use Rattle.sq_oper.specs.declared.outs.Event.{Event};
-ghost use Rattle.sq_road.specs.Levels.{AgreesWith};
-ghost use Rattle.sq_pool.specs.Trust.{IsLater, known};
-ghost use Rattle.sq_queue.specs.Faces.{Together};
+ghost use Rattle.std.specs.Prelude.{◌≡◌, ℕ, ◌≤◌, ◌<◌, false, IfOk, IfErr, length, slice_get};
+ghost use Rattle.sq_pool.specs.Trust.{known};
 
 use crate::errors::RunErr;
 use crate::flow::{Did, Flow, next_source};
@@ -22,14 +18,13 @@ pub struct Progress {
 }
 
 impl<O: Operator + Drop> Flow<O> {
-    ghost use Rattle.sq_flow.specs.Flows.{IsFlow};
+    ghost use Rattle.sq_flow.specs.Readiness.{HasActor};
     ghost use Rattle.sq_flow.specs.Seats.{done_at};
-    ghost use Rattle.sq_flow.specs.Stepping.{Holds, stage, StepOk, StepErr, TrainOk};
+    ghost use Rattle.sq_flow.specs.Stepping.{Holds, MayStep, stage, StepWhole, StepErr, TrainOk};
 
     /// An actor is finished.
     pub(crate) fn is_done(&self, actor: u32) -> bool
-        requires flow { IsFlow O.Operator self.now }
-        requires actor_in { actor ≤ length self.now.seats.items }
+        requires actor { HasActor O.Operator self.now actor }
         ensures { result ≡ done_at self.now.over (slice_get self.now.seats.items actor) }
     {
         match self.seats.get(actor as usize) {
@@ -45,12 +40,10 @@ impl<O: Operator + Drop> Flow<O> {
         events: &mut Vec<Event>,
         failed: &mut Option<RunErr>,
     ) -> Result<Did, RunErr>
-        requires holds { Holds O.Operator self.old (known (D.log disk.old)) }
-        requires whole { failed.old ≡ None }
+        requires may { MayStep O.Operator self.old (known (D.log disk.old)) failed.old }
         requires running { self.old.over ≡ false }
-        ensures ok { IfOk result (λ did. (n : ℕ) → StepOk O.Operator (length self.old.seats.items) did
-            (stage D.PageDisk self.old disk.old events.old.items n) (stage D.PageDisk self.new disk.new events.new.items n)) }
-        ensures whole { OnOk result (failed.new ≡ None) }
+        ensures ok { IfOk result (λ did. (n : ℕ) → StepWhole O.Operator (length self.old.seats.items) did
+            (stage D.PageDisk self.old disk.old events.old.items n) (stage D.PageDisk self.new disk.new events.new.items n) failed.new) }
         ensures err { IfErr result (λ e. (n : ℕ) → StepErr O.Operator (stage D.PageDisk self.old disk.old events.old.items n)
             (stage D.PageDisk self.new disk.new events.new.items n) e) }
     {
@@ -76,13 +69,11 @@ impl<O: Operator + Drop> Flow<O> {
         steps: &mut Steps<L>,
         failed: &mut Option<RunErr>,
     ) -> Result<Did, RunErr>
-        requires holds { Holds O.Operator self.old (known (D.log disk.old)) }
-        requires whole { failed.old ≡ None }
+        requires may { MayStep O.Operator self.old (known (D.log disk.old)) failed.old }
         requires actor_in { actor < length self.old.seats.items }
         requires running { done_at self.old.over (slice_get self.old.seats.items actor) ≡ false }
-        ensures ok { IfOk result (λ did. StepOk O.Operator actor did (stage D.PageDisk self.old disk.old events.old.items steps.old)
-            (stage D.PageDisk self.new disk.new events.new.items steps.new)) }
-        ensures whole { OnOk result (failed.new ≡ None) }
+        ensures ok { IfOk result (λ did. StepWhole O.Operator actor did (stage D.PageDisk self.old disk.old events.old.items steps.old)
+            (stage D.PageDisk self.new disk.new events.new.items steps.new) failed.new) }
         ensures err { IfErr result (StepErr O.Operator (stage D.PageDisk self.old disk.old events.old.items steps.old)
             (stage D.PageDisk self.new disk.new events.new.items steps.new)) }
     {
@@ -109,12 +100,10 @@ impl<O: Operator + Drop> Flow<O> {
         steps: &mut Steps<L>,
         failed: &mut Option<RunErr>,
     ) -> Result<Did, RunErr>
-        requires holds { Holds O.Operator self.old (known (D.log disk.old)) }
-        requires whole { failed.old ≡ None }
+        requires may { MayStep O.Operator self.old (known (D.log disk.old)) failed.old }
         requires actor_in { actor ≤ length self.old.seats.items }
-        ensures ok { IfOk result (λ did. StepOk O.Operator actor did (stage D.PageDisk self.old disk.old events.old.items steps.old)
-            (stage D.PageDisk self.new disk.new events.new.items steps.new)) }
-        ensures whole { OnOk result (failed.new ≡ None) }
+        ensures ok { IfOk result (λ did. StepWhole O.Operator actor did (stage D.PageDisk self.old disk.old events.old.items steps.old)
+            (stage D.PageDisk self.new disk.new events.new.items steps.new) failed.new) }
         ensures err { IfErr result (StepErr O.Operator (stage D.PageDisk self.old disk.old events.old.items steps.old)
             (stage D.PageDisk self.new disk.new events.new.items steps.new)) }
     {
@@ -137,8 +126,7 @@ impl<O: Operator + Drop> Flow<O> {
         events: &mut Vec<Event>,
         steps: &mut Steps<L>,
     ) -> Result<Progress, RunErr>
-        requires flow { IsFlow O.Operator self.old }
-        requires together { Together self.old.queues (known (D.log disk.old)) }
+        requires holds { Holds O.Operator self.old (known (D.log disk.old)) }
         requires actor_in { actor ≤ length self.old.seats.items }
         requires some { 1 ≤ train }
         ensures ok { IfOk result (TrainOk O.Operator actor train (stage D.PageDisk self.old disk.old events.old.items steps.old)

@@ -1,18 +1,17 @@
 //! Taking an item from an arc, and the tests that it passes.
 
-ghost use Rattle.std.specs.Prelude.{◌≡◌, ◌≢◌, ℕ, ◌+◌, ◌-◌, ◌^◌, ◌<◌, ◌≤◌, true, is_some, length, IfOk, IfErr, OnErr};
+ghost use Rattle.std.specs.Prelude.{◌≡◌, ◌+◌, ◌^◌, ◌<◌, ◌≤◌, true, length, IfOk, IfErr};
 ghost use Rattle.sq_value.specs.Values.{is_of_kind, kinds_fit};
 ghost use Rattle.sq_item.specs.SoundItems.{IsSoundItem};
 ghost use Rattle.sq_item.specs.Things.{spread};
-ghost use Rattle.sq_pool.specs.Trust.{IsLater, known};
-ghost use Rattle.sq_queue.specs.Faces.{face, size, Together};
-ghost use Rattle.sq_flow.specs.Causes.{TakesItem, TakesNone};
+ghost use Rattle.sq_pool.specs.Trust.{known};
+ghost use Rattle.sq_flow.specs.Causes.{MayTake, TakesItem, TakesNone, TouchesArc, LogGrows};
 ghost use Rattle.sq_flow.specs.Takes.{MayBeFed, may_stand, mark_fits, kinds_take};
 
 use crate::errors::RunErr;
 use crate::wires::Arc;
 use sq_item::{Body, Item, Sign};
-use sq_oper::Moment;
+use sq_oper::Position;
 use sq_outside::PageDisk;
 use sq_queue::{ArcQueues, Queues};
 use sq_value::{Kind, Value};
@@ -44,7 +43,7 @@ fn is_of(kind: Kind, value: &Value) -> bool
 }
 
 /// As many values as kinds, each Null or of its kind: it is asked of each tuple that is fed, so it goes over both at once.
-#[tactic(auto, using(crate::proofs::KindLemmas::kind_lemmas))]
+#[tactic(auto, using(crate::proofs::TakeLemmas::kind_lemmas))]
 #[inline]
 fn kinds_fit(kinds: &[Kind], values: &[Value]) -> bool
     ensures { result ≡ kinds_fit kinds.now values.now }
@@ -69,12 +68,12 @@ fn kinds_take(kinds: &[Kind], body: &Body) -> bool
 
 /// What begins with a mark, or with a tuple, may stand behind this place.
 #[inline(always)]
-fn may_stand(place: Moment, port: u32, time: u64, mark: bool) -> bool
+fn may_stand(place: Position, port: u32, time: u64, mark: bool) -> bool
     ensures { result ≡ may_stand place port time mark }
 {
     match place {
-        Moment::Start => true,
-        Moment::At {
+        Position::Start => true,
+        Position::At {
             time: last,
             port: before,
             marked,
@@ -91,7 +90,7 @@ fn may_stand(place: Moment, port: u32, time: u64, mark: bool) -> bool
 /// An item may come from an arc to a port of an operator that stands at this place.
 #[tactic(auto, using(crate::proofs::TakeLemmas::take_lemmas))]
 #[inline(always)]
-fn may_be_fed(at: &Arc, port: u32, place: Moment, clock: u64, item: &Item) -> bool
+fn may_be_fed(at: &Arc, port: u32, place: Position, clock: u64, item: &Item) -> bool
     requires { IsSoundItem item.now }
     ensures yes { result ≡ true → MayBeFed at.now port place clock item.now }
     ensures no { MayBeFed at.now port place clock item.now → result ≡ true }
@@ -121,18 +120,14 @@ pub(crate) fn take_item<D: PageDisk>(
     at: &Arc,
     arc: u32,
     port: u32,
-    place: Moment,
+    place: Position,
     clock: u64,
 ) -> Result<Item, RunErr>
-    requires there { arc < size queues.old }
-    requires some { is_some (face queues.old arc).first ≡ true }
-    requires together { Together queues.old (known (D.log disk.old)) }
+    requires { MayTake queues.old (known (D.log disk.old)) arc }
     ensures ok { IfOk result (TakesItem (D.log disk.old) (D.log disk.new) queues.old queues.new at.now arc port place clock) }
     ensures err { IfErr result (TakesNone (D.log disk.old) (D.log disk.new) (D.faults disk.old) (D.faults disk.new) queues.old queues.new at.now arc port place clock) }
-    ensures faces { (other : ℕ) → other ≢ arc → face queues.new other ≡ face queues.old other }
-    ensures size { size queues.new ≡ size queues.old }
-    ensures faults { D.faults disk.old ≤ D.faults disk.new }
-    ensures later { IsLater (D.log disk.old) (D.log disk.new) }
+    ensures others { TouchesArc arc queues.old queues.new }
+    ensures disk { LogGrows (D.log disk.old) (D.log disk.new) (D.faults disk.old) (D.faults disk.new) }
 {
     let item = queues.pop(disk, arc)?;
     if !may_be_fed(at, port, place, clock, &item) {
@@ -146,8 +141,7 @@ pub(crate) fn take_item<D: PageDisk>(
 pub(crate) fn count_item(taken: u64, item: &Item) -> Result<u64, RunErr>
     requires { taken < 2 ^ 62 }
     ensures ok { IfOk result (λ n. (n ≡ taken + length (spread item.now)) × (n < 2 ^ 62)) }
-    ensures err { IfErr result (λ e. e ≡ RunErr.TooMuch) }
-    ensures too_much { OnErr result (2 ^ 62 ≤ taken + length (spread item.now)) }
+    ensures err { IfErr result (λ e. (e ≡ RunErr.TooMuch) × (2 ^ 62 ≤ taken + length (spread item.now))) }
     ensures few { length (spread item.now) ≤ 2 }
 {
     let weight = weight_of(item);

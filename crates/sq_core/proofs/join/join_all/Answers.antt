@@ -3,7 +3,7 @@ use Rattle.std.proofs.lemmas.Grind.{common_steps}
 use Rattle.std.proofs.lemmas.Option.{slice_get_read}
 use Rattle.sq_core.specs.Joining.{feeds_of, feeds_in}
 use Rattle.sq_core.proofs.JoinLemmas.{joining-more, fixed-more}
-use Rattle.sq_core.proofs.ShapeLemmas.{joining-past}
+use Rattle.sq_core.proofs.ShapeLemmas.{joining-next}
 use Rattle.sq_core.proofs.join.join_all.Goals as goal
 
 pub loop-place-preserved : goal.loop-place-preserved
@@ -26,4 +26,4 @@ returns-clause-joining c =
     let upto = c.loop-place.auto.place-end in
     let len = c.len-place-end.ensures in
     let here : length (feeds_of c.args.feeds.now c.args.actor) ≡ length c.index-feeds-actor.result.items = ap (λ o. length (feeds_in o)) row in
-    joining-past c.args.wires.now.shown c.args.feeds.now c.args.actor c.loop-place.place c.loop-place.wires c.requires.feeds c.loop-place.invariant.0 (omega (arith, past, upto, len, many, here))
+    joining-next c.args.wires.now.shown c.args.feeds.now c.args.actor c.loop-place.place c.loop-place.wires c.requires.feeds c.loop-place.invariant.0 (omega (arith, past, upto, len, many, here))

@@ -10,4 +10,4 @@ arc_feed-requires-clause-there c =
     let low = c.loop-index-test.true in
     let len = c.len-index-end.ensures in
     let got = slice_get_read c.in_ok-arcs.arcs.items _ c.loop-index.index c.index-arc.result.now refl (omega (arith, low, len, many)) c.index-arc.ensures in
-    input-low c.args.n.now c.args.at c.loop-index.index c.index-arc.result.now c.requires.there (ap (λ l. slice_get l c.loop-index.index) (sym c.in_ok-arcs.ensures) ∙ got)
+    input-low c.args.it.now.n.now c.args.at c.loop-index.index c.index-arc.result.now c.requires.there (ap (λ l. slice_get l c.loop-index.index) (sym c.in_ok-arcs.ensures) ∙ got)

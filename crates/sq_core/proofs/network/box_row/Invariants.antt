@@ -4,4 +4,4 @@ use Rattle.sq_core.specs.Table.{arc_feed}
 use Rattle.sq_core.proofs.network.box_row.Given as goal
 
 abbrev pub invariant-loop-index : goal.invariant-loop-index
-invariant-loop-index l = map (arc_feed l.n) (input_arcs_of l.n.wires l.at) ≡ l.row.items ++ map (arc_feed l.n) (drop l.index l.arcs.items)
+invariant-loop-index l = map (arc_feed l.it.n.now) (input_arcs_of l.it.n.now.wires l.at) ≡ l.row.items ++ map (arc_feed l.it.n.now) (drop l.index l.arcs.items)

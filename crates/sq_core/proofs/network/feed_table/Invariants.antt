@@ -5,4 +5,4 @@ use Rattle.sq_core.specs.Table.{feeds_row}
 use Rattle.sq_core.proofs.network.feed_table.Given as goal
 
 abbrev pub invariant-loop-actor : goal.invariant-loop-actor
-invariant-loop-actor l = map (λ f. f.items) l.table.items ≡ map (λ k. feeds_row l.n (actor_at l.n k)) (numbers_to l.actor)
+invariant-loop-actor l = map (λ f. f.items) l.table.items ≡ map (λ k. feeds_row l.it.n.now (actor_at l.it.n.now k)) (numbers_to l.actor)

@@ -8,38 +8,59 @@ use Rattle.sq_core.proofs.TableLemmas.{are-feeds, count-is, measured-all}
 use Rattle.sq_core.proofs.OrderLemmas.{network-order}
 use Rattle.sq_core.proofs.network.network_wires.Goals as goal
 
-pub feed_table-requires-clause-streams : goal.feed_table-requires-clause-streams
-feed_table-requires-clause-streams c = c.deref.ensures.value ∙ c.in_ok-streams.ensures ∙ streams_are c.args.n.now
-
-pub actors_of-requires-clause-streams : goal.actors_of-requires-clause-streams
-actors_of-requires-clause-streams c = c.deref-2.ensures.value ∙ c.in_ok-streams.ensures ∙ streams_are c.args.n.now
-
-pub wires_of-requires-clause-feeds : goal.wires_of-requires-clause-feeds
-wires_of-requires-clause-feeds c =
+pub feed_table-requires : goal.feed_table-requires
+feed_table-requires c =
     let boxes = ap length c.as_slice.ensures in
     let points = ap (λ l. length l) c.requires.points in
-    let first : first_output c.args.n.now ≡ length c.as_slice.result.now + length c.args.points.now = omega (arith, boxes, points) in
-    subst (λ k. AreFeeds k c.deref-3.result.now) first
-    (are-feeds c.args.n.now c.requires.sound c.deref-3.result.now (ap (map (λ f. f.items)) c.deref-3.ensures.value ∙ c.in_ok-table.ensures))
+    let outputs = ap length c.as_slice-2.ensures in
+    record {
+      sound = c.requires.sound;
+      points = c.requires.points;
+      places = c.requires.places;
+      streams = c.deref.ensures.value ∙ c.in_ok-streams.ensures ∙ streams_are c.args.n.now;
+      replay = omega (arith, boxes, points, outputs);
+    }
 
-pub wires_of-requires-clause-shown : goal.wires_of-requires-clause-shown
-wires_of-requires-clause-shown c =
-    let many = count-is c.args.n.now c.requires.sound c.deref-3.result.now (ap (map (λ f. f.items)) c.deref-3.ensures.value ∙ c.in_ok-table.ensures) in
+pub actors_of-requires : goal.actors_of-requires
+actors_of-requires c =
     let boxes = ap length c.as_slice.ensures in
     let points = ap (λ l. length l) c.requires.points in
-    omega (arith, many, boxes, points)
+    let outputs = ap length c.as_slice-2.ensures in
+    record {
+      sound = c.requires.sound;
+      points = c.requires.points;
+      places = c.requires.places;
+      streams = c.deref.ensures.value ∙ c.in_ok-streams.ensures ∙ streams_are c.args.n.now;
+      replay = omega (arith, boxes, points, outputs);
+    }
 
-pub wires_of-requires-clause-order : goal.wires_of-requires-clause-order
-wires_of-requires-clause-order c =
-    subst (IsActorOrder (length c.deref-3.result.now) c.deref-3.result.now) (sym c.in_ok-order.ensures)
-    (network-order c.args.n.now c.requires.sound c.deref-3.result.now (ap (map (λ f. f.items)) c.deref-3.ensures.value ∙ c.in_ok-table.ensures))
+pub wires_of-requires : goal.wires_of-requires
+wires_of-requires c =
+    let n = c.args.n.now in
+    let feeds = c.deref-2.result.now in
+    let table = ap (map (λ f. f.items)) c.deref-2.ensures.value ∙ c.in_ok-table.ensures in
+    let many = count-is n c.requires.sound feeds table in
+    let boxes = ap length c.as_slice.ensures in
+    let points = ap (λ l. length l) c.requires.points in
+    let first : first_output n ≡ length c.as_slice.result.now + length c.args.points.now = omega (arith, boxes, points) in
+    record {
+      feeds = subst (λ k. AreFeeds k feeds) first (are-feeds n c.requires.sound feeds table);
+      sheds = omega arith;
+      shown = omega (arith, many, boxes, points);
+      order = subst (IsActorOrder (length feeds) feeds) (sym c.in_ok-order.ensures) (network-order n c.requires.sound feeds table);
+    }
 
-pub returns-clause-shaped : goal.returns-clause-shaped
-returns-clause-shaped c =
-    let many = count-is c.args.n.now c.requires.sound c.deref-3.result.now (ap (map (λ f. f.items)) c.deref-3.ensures.value ∙ c.in_ok-table.ensures) in
-    IfOk-weaker c.wires_of.result _ _ (λ w h. subst (IsShaped w) many h) c.wires_of.ensures.shaped
-
-pub returns-clause-measured : goal.returns-clause-measured
-returns-clause-measured c =
-    let table = ap (map (λ f. f.items)) c.deref-3.ensures.value ∙ c.in_ok-table.ensures in
-    IfOk-weaker c.wires_of.result _ _ (λ w j. measured-all c.args.n.now c.requires.sound c.deref-3.result.now table w j) c.wires_of.ensures.joined
+pub returns : goal.returns
+returns c =
+    let n = c.args.n.now in
+    let feeds = c.deref-2.result.now in
+    let table = ap (map (λ f. f.items)) c.deref-2.ensures.value ∙ c.in_ok-table.ensures in
+    let boxes = ap length c.as_slice.ensures in
+    let points = ap (λ l. length l) c.requires.points in
+    IfOk-weaker c.wires_of.result _ _
+    (λ w h. record {
+      shaped = subst (IsShaped w) (count-is n c.requires.sound feeds table) h.shaped;
+      measured = measured-all n c.requires.sound feeds table w h.joined;
+      sheds = h.sheds ∙ boxes;
+      shown = (let shown = h.shown in omega (arith, shown, boxes, points));
+    }) c.wires_of.ensures

@@ -1,12 +1,17 @@
 use Rattle.std.proofs.Common.{arith}
 use Rattle.sq_lines.specs.RunLines.{event_line}
 use Rattle.sq_lines.proofs.PairLemmas.{text-more}
+use Rattle.sq_drive.proofs.StopLemmas.{lost_later}
 use Rattle.sq_drive.proofs.WritingLemmas.{lost_at, moves-then}
 use Rattle.sq_drive.proofs.lines.show_events.Goals as goal
 
 pub returns-in-Err-clause-err : goal.returns-in-Err-clause-err
 returns-in-Err-clause-err g c =
-    lost_at (event_line c.args.network.now) c.args.events.now c.events.event-index c.event-item.result _ _ _ _ c.events.text.items c.events-test.true c.event-item.is c.events.invariant.moves c.in-Err.ensures.err
+    let lost = c.in-Err.ensures.err in
+    record {
+      begun = lost_at (event_line c.args.network.now) c.args.events.now c.events.event-index c.event-item.result _ _ _ _ c.events.text.items c.events-test.true c.event-item.is c.events.invariant.moves lost.begun;
+      lost = lost_later _ _ _ c.in-Err.status c.events.invariant.later lost.lost;
+    }
 
 pub events-preserved : goal.events-preserved
 events-preserved g c =

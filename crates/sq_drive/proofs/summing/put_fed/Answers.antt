@@ -1,16 +1,12 @@
-use Rattle.std.proofs.Common.{◌++◌, append_assoc, ap, sym, ◌∙◌, take, get_or}
-use Rattle.std.specs.List.{flat_map, zip}
-use Rattle.sq_lines.proofs.PairLemmas.{pairs_all, pairs_text-more}
+use Rattle.sq_lines.proofs.PairLemmas.{pairs_all}
 use Rattle.sq_drive.specs.Summaries.{fed_count}
+use Rattle.sq_drive.proofs.TextLemmas.{pair_put}
 use Rattle.sq_drive.proofs.summing.put_fed.Goals as goal
 
 pub boxes-preserved : goal.boxes-preserved
 boxes-preserved c =
-    let line = fed_count (c.index-boxes-i.result, get_or c.args.fed.now c.boxes.i 0) in
-    (rw c.as_str.ensures at c.in_ok-put_count.ensures)
-    ∙ ap (λ t. t ++ line) c.boxes.invariant
-    ∙ append_assoc c.args.text.now.items (flat_map fed_count (take c.boxes.i (zip c.args.boxes.now c.args.fed.now))) line
-    ∙ ap (λ t. c.args.text.now.items ++ t) (sym (pairs_text-more c.args.boxes.now c.args.fed.now c.requires.even c.boxes.i c.index-boxes-i.result c.boxes-test.true c.index-boxes-i.is fed_count))
+    pair_put fed_count c.args.boxes.now c.args.fed.now c.requires.even c.boxes.i c.index-boxes-i.result c.boxes-test.true c.index-boxes-i.is _ _ _
+    (rw c.as_str.ensures at c.in_ok-put_count.ensures) c.boxes.invariant
 
 pub returns : goal.returns
 returns c = rw (pairs_all c.args.boxes.now c.args.fed.now c.requires.even c.boxes.i c.boxes-test.false) at c.boxes.invariant

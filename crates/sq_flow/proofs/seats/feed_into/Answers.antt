@@ -1,11 +1,10 @@
-use Rattle.std.proofs.Common.{rules, ◌≡◌, ◌++◌, subst}
+use Rattle.std.proofs.Common.{rules, ap, ◌≡◌, ◌++◌, subst}
 use Rattle.sq_words.specs.Lists.{IsPrefixOf}
-use Rattle.sq_pool.specs.Trust.{Tells, known}
 use Rattle.sq_oper.specs.Outflow.{given}
 use Rattle.sq_oper.specs.Entries.{entries}
-use Rattle.sq_flow.specs.Causes.{IsQueueCause}
-use Rattle.sq_flow.specs.Takes.{NotChanged}
-use Rattle.sq_flow.proofs.OnwardLemmas.{came-open, feeds-into, was-shown, of-fault}
+use Rattle.sq_flow.specs.declared.fed_items.FedItems.{FedItems}
+use Rattle.sq_flow.specs.Causes.{FailsOver}
+use Rattle.sq_flow.proofs.QueueOutletLemmas.{came-open, feeds-into, was-shown, of-fault}
 use Rattle.sq_flow.proofs.seats.feed_into.Goals as goal
 
 pub feed-done-requires-clause-is_ready : goal.feed-done-requires-clause-is_ready
@@ -13,23 +12,23 @@ feed-done-requires-clause-is_ready g c = c.requires.gives
 
 pub returns-in-Ok-clause-fed : goal.returns-in-Ok-clause-fed
 returns-in-Ok-clause-fed g c =
-    let came = came-open g.D.PageDisk.log g.D.PageDisk.faults _ _ c.requires.gives c.new.ensures c.feed-done.ensures.came in
+    let came = came-open g.D.PageDisk.log g.D.PageDisk.faults _ _ c.requires.gives c.new-given.ensures c.new-noted.ensures c.feed-done.ensures.came in
     let queues = came.holds.queues in
     let disk = came.holds.disk in
     let events = came.holds.events in
     let told = c.in-Ok.ensures in
-    let none = c.new.ensures in
-    feeds-into g.D.PageDisk.log g.D.PageDisk.faults _ _ _ _ _ came _ _ _ (search rules) (search rules) (search rules) told.stays_ready.whole c.args.levels.now c.args.port c.args.item
+    let none = ap (λ (i : FedItems). i.items) c.new-given.ensures in
+    feeds-into g.D.PageDisk.log g.D.PageDisk.faults _ _ _ _ _ came _ _ _ (search rules) (search rules) (search rules) (told.stays_ready.passes 0).whole c.args.levels.now c.args.port c.args.item
     (record {
       law = λ table future agrees may q.
-          subst (λ items. given q items ++ g.O.Operator.rest c.args.seat.now.op table (entries c.args.port c.args.item ++ future) q ≡ given q c.feed-done.new.out.noted.items ++ g.O.Operator.rest c.feed-done.new.self table future q) none.0
+          subst (λ items. given q items ++ g.O.Operator.rest c.args.seat.now.op table (entries c.args.port c.args.item ++ future) q ≡ given q c.feed-done.new.out.given.items ++ g.O.Operator.rest c.feed-done.new.self table future q) none
           (told.law table future agrees may q);
       decided = λ table future agrees may.
-          subst (λ drops. drops ++ g.O.Operator.decides c.args.seat.now.op table (entries c.args.port c.args.item ++ future) ≡ c.feed-done.new.out.noted.drops ++ g.O.Operator.decides c.feed-done.new.self table future) none.1
+          subst (λ drops. drops ++ g.O.Operator.decides c.args.seat.now.op table (entries c.args.port c.args.item ++ future) ≡ c.feed-done.new.out.noted.drops ++ g.O.Operator.decides c.feed-done.new.self table future) c.new-noted.ensures
           (told.decided table future agrees may);
       loses = told.loses;
       times = told.times;
-      sound = told.sound (rw none.0 tt);
+      sound = told.sound (rw none tt);
       after =
           record {
             is_valid = told.stays_valid.0;
@@ -48,63 +47,44 @@ returns-in-Ok-clause-fed g c =
 
 pub returns-in-Err-clause-part : goal.returns-in-Err-clause-part
 returns-in-Err-clause-part g c =
-    let came = came-open g.D.PageDisk.log g.D.PageDisk.faults _ _ c.requires.gives c.new.ensures c.feed-done.ensures.came in
+    let came = came-open g.D.PageDisk.log g.D.PageDisk.faults _ _ c.requires.gives c.new-given.ensures c.new-noted.ensures c.feed-done.ensures.came in
     let events = came.holds.events in
     let told = c.in-Err.ensures in
-    let none = c.new.ensures in
+    let none = ap (λ (i : FedItems). i.items) c.new-given.ensures in
     record {
-      items = c.feed-done.new.out.noted.items;
+      items = c.feed-done.new.out.given.items;
       drops = c.feed-done.new.out.noted.drops;
       law = λ table future agrees may q.
-          subst (λ items. IsPrefixOf (given q c.feed-done.new.out.noted.items) (given q items ++ g.O.Operator.rest c.args.seat.now.op table (entries c.args.port c.args.item ++ future) q)) none.0
+          subst (λ items. IsPrefixOf (given q c.feed-done.new.out.given.items) (given q items ++ g.O.Operator.rest c.args.seat.now.op table (entries c.args.port c.args.item ++ future) q)) none
           (told.prefix table future agrees may q);
       decided = λ table future agrees may.
-          subst (λ drops. IsPrefixOf c.feed-done.new.out.noted.drops (drops ++ g.O.Operator.decides c.args.seat.now.op table (entries c.args.port c.args.item ++ future))) none.1
+          subst (λ drops. IsPrefixOf c.feed-done.new.out.noted.drops (drops ++ g.O.Operator.decides c.args.seat.now.op table (entries c.args.port c.args.item ++ future))) c.new-noted.ensures
           (told.decided_prefix table future agrees may);
       shown = was-shown g.D.PageDisk.log g.D.PageDisk.faults _ _ came _ (search rules);
     }
 
-pub returns-in-Ok-clause-faults : goal.returns-in-Ok-clause-faults
-returns-in-Ok-clause-faults g c =
-    let came = came-open g.D.PageDisk.log g.D.PageDisk.faults _ _ c.requires.gives c.new.ensures c.feed-done.ensures.came in
+pub returns-in-Ok-clause-disk : goal.returns-in-Ok-clause-disk
+returns-in-Ok-clause-disk g c =
+    let came = came-open g.D.PageDisk.log g.D.PageDisk.faults _ _ c.requires.gives c.new-given.ensures c.new-noted.ensures c.feed-done.ensures.came in
     let disk = came.holds.disk in
-    let rises = came.rises in search rules
+    let grows = came.grows in search rules
 
-pub returns-in-Ok-clause-later : goal.returns-in-Ok-clause-later
-returns-in-Ok-clause-later g c =
-    let came = came-open g.D.PageDisk.log g.D.PageDisk.faults _ _ c.requires.gives c.new.ensures c.feed-done.ensures.came in
+pub returns-in-Err-clause-disk : goal.returns-in-Err-clause-disk
+returns-in-Err-clause-disk g c =
+    let came = came-open g.D.PageDisk.log g.D.PageDisk.faults _ _ c.requires.gives c.new-given.ensures c.new-noted.ensures c.feed-done.ensures.came in
     let disk = came.holds.disk in
-    let later = came.later in search rules
-
-pub returns-in-Err-clause-faults : goal.returns-in-Err-clause-faults
-returns-in-Err-clause-faults g c =
-    let came = came-open g.D.PageDisk.log g.D.PageDisk.faults _ _ c.requires.gives c.new.ensures c.feed-done.ensures.came in
-    let disk = came.holds.disk in
-    let rises = came.rises in search rules
-
-pub returns-in-Err-clause-later : goal.returns-in-Err-clause-later
-returns-in-Err-clause-later g c =
-    let came = came-open g.D.PageDisk.log g.D.PageDisk.faults _ _ c.requires.gives c.new.ensures c.feed-done.ensures.came in
-    let disk = came.holds.disk in
-    let later = came.later in search rules
+    let grows = came.grows in search rules
 
 pub returns-in-Err-clause-fails : goal.returns-in-Err-clause-fails
 returns-in-Err-clause-fails g c =
-    let came = came-open g.D.PageDisk.log g.D.PageDisk.faults _ _ c.requires.gives c.new.ensures c.feed-done.ensures.came in
+    let came = came-open g.D.PageDisk.log g.D.PageDisk.faults _ _ c.requires.gives c.new-given.ensures c.new-noted.ensures c.feed-done.ensures.came in
     let queues = came.holds.queues in
     let disk = came.holds.disk in
     let failed = came.holds.failed in
-    let cause =
-    of-fault c.feed-done.new.out.failed.now
-    (IsQueueCause c.feed-done.new.out.queues.now (g.D.PageDisk.log c.args.disk.now) (g.D.PageDisk.log c.feed-done.new.out.disk.now) (g.D.PageDisk.faults c.args.disk.now) (g.D.PageDisk.faults c.feed-done.new.out.disk.now))
-    came.cause tt in
-    let honest =
-    of-fault c.feed-done.new.out.failed.now (λ e. Tells (known (g.D.PageDisk.log c.feed-done.new.out.disk.now)) → NotChanged (g.D.PageDisk.log c.args.disk.now).honest e) came.honest (λ known. tt)
-    in
-    record { cause = search rules; honest = search rules }
+    let fails = of-fault c.feed-done.new.out.failed.now (FailsOver _ _ _ _ _) came.fails (record { cause = tt; honest = λ known. tt }) in search rules
 
-pub returns-in-Ok-clause-whole : goal.returns-in-Ok-clause-whole
-returns-in-Ok-clause-whole g c =
-    let came = came-open g.D.PageDisk.log g.D.PageDisk.faults _ _ c.requires.gives c.new.ensures c.feed-done.ensures.came in
+pub returns-in-Ok-clause-done : goal.returns-in-Ok-clause-done
+returns-in-Ok-clause-done g c =
+    let came = came-open g.D.PageDisk.log g.D.PageDisk.faults _ _ c.requires.gives c.new-given.ensures c.new-noted.ensures c.feed-done.ensures.came in
     let failed = came.holds.failed in
-    let whole = c.in-Ok.ensures.stays_ready.whole in search rules
+    let whole = (c.in-Ok.ensures.stays_ready.passes 0).whole in (search rules, search rules)

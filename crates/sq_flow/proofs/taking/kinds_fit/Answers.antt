@@ -2,7 +2,7 @@ use Rattle.std.proofs.Common.{◌≡◌, ◌∙◌, ◌+◌, true, suc, drop, ge
 use Rattle.std.proofs.lemmas.Option.{slice_get_read, slice_get-get_or}
 use Rattle.sq_value.specs.declared.Kind.TheVariants.{Int}
 use Rattle.sq_value.specs.Values.{kinds_fit, is_of_kind}
-use Rattle.sq_flow.proofs.KindLemmas.{kinds_step}
+use Rattle.sq_flow.proofs.TakeLemmas.{kinds_step}
 use Rattle.sq_flow.proofs.taking.kinds_fit.Goals as goal
 
 pub loop-at-preserved : goal.loop-at-preserved

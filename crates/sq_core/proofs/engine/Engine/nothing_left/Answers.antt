@@ -1,11 +1,15 @@
 use Rattle.sq_core.proofs.EndLemmas.{nothing-planned}
 use Rattle.sq_core.proofs.engine.Engine.nothing_left.Goals as goal
 
-pub returns-clause-lines : goal.returns-clause-lines
-returns-clause-lines c = c.nothing_left.ensures.lines
-
-pub returns-clause-drops : goal.returns-clause-drops
-returns-clause-drops c = c.nothing_left.ensures.drops
-
-pub returns-clause-plans : goal.returns-clause-plans
-returns-clause-plans c = nothing-planned c.args.self.now c.requires.sound c.requires.done
+pub returns : goal.returns
+returns c =
+    let left = c.nothing_left.ensures in
+    record {
+      lines = left.lines;
+      drops = left.drops;
+      fed = left.fed;
+      lost = left.lost;
+      work = left.work;
+      arcs = left.arcs;
+      plans = nothing-planned c.args.self.now c.requires.sound c.requires.done;
+    }

@@ -1,5 +1,5 @@
 use Rattle.sq_drive.proofs.LineLemmas.{shown_lost, shown_then}
-use Rattle.sq_drive.proofs.WritingLemmas.{on_err, on_ok}
+use Rattle.sq_drive.proofs.WritingLemmas.{loses_map, on_ok}
 use Rattle.sq_drive.proofs.lines.LineWriterAudience.show.Goals as goal
 
 pub returns-clause-ok : goal.returns-clause-ok
@@ -10,6 +10,6 @@ returns-clause-ok g c =
 
 pub returns-clause-err : goal.returns-clause-err
 returns-clause-err g c =
-    on_err c.show_events.result c.show_events.ensures.err
+    loses_map _ _ c.show_events.result c.show_events.ensures.err
     (λ written from before was. shown_lost c.args.network.now (g.S.Sink.written from) (g.S.Sink.written c.args.out.now) (g.S.Sink.written c.show_events.new.out)
     c.args.self.now.text.items before was c.args.events.now written)

@@ -13,5 +13,5 @@ loop-index-preserved g c =
     subst (λ (f : Flow g.row.O.Denot). c.reader-reader.result ≡ get_or (readers_of f c.args.place) c.loop-index.index 0) c.loop-index.invariant.flow c.reader-reader.ensures.reader
     in
     looked-next (readers_of c.args.self.now.flow c.args.place) c.loop-index.index c.reader-reader.result c.args.self.now c.loop-index.self c.look_at.new.self
-    (climbs-next (followers_of c.args.self.now.flow.wires c.args.place) (c.requires.flow.shaped.followers_climb c.args.place)) within reader_is
+    (climbs-next (followers_of c.args.self.now.flow.wires c.args.place) (c.requires.looks.flow.shaped.followers_climb c.args.place)) within reader_is
     c.loop-index.invariant c.look_at.ensures

@@ -2,13 +2,13 @@ use Rattle.std.proofs.Common.{◌≡◌, ◌+◌, false, length, refl, ap, arith
 use Rattle.sq_flow.proofs.EngineLemmas.{engine-first, order-first}
 use Rattle.sq_flow.proofs.engine.Engine.new.Goals as goal
 
-pub look_at_all-requires-clause-room : goal.look_at_all-requires-clause-room
-look_at_all-requires-clause-room g c =
+pub look_at_all-requires : goal.look_at_all-requires
+look_at_all-requires g c =
     let flow = c.in_ok-flow.flow in
     let replay = c.in_ok-flow.ensures.flow.shaped.replay_is in
     let actors : c.in_ok-ready.ready.actors ≡ length flow.seats.items + 1 = omega (arith, replay, ap (λ r. r.actors) c.in_ok-ready.ensures) in
     let waits : length c.in_ok-waits.waits.items ≡ length flow.seats.items + 1 = omega (arith, replay, c.in_ok-waits.ensures.len, c.in_ok-waits.waits.ok.0) in
-    record { actors = actors; waits = waits }
+    record { looks = record { flow = c.in_ok-flow.ensures.flow; room = record { actors = actors; waits = waits } } }
 
 pub returns-clause-engine : goal.returns-clause-engine
 returns-clause-engine g c =
@@ -24,23 +24,8 @@ returns-clause-order g c =
     order-first (record { flow = c.in_ok-flow.flow; ready = c.in_ok-ready.ready; waits = c.in_ok-waits.waits; failed = false }) c.look_at_all.new.self
     (ap (λ r. r.list) c.in_ok-ready.ensures) c.look_at_all.ensures
 
-pub new-requires-clause-shaped : goal.new-requires-clause-shaped
-new-requires-clause-shaped g c = c.requires.shaped
-
-pub new-requires-clause-seats : goal.new-requires-clause-seats
-new-requires-clause-seats g c = c.requires.seats
-
-pub new-requires-clause-sources : goal.new-requires-clause-sources
-new-requires-clause-sources g c = c.requires.sources
-
-pub new-requires-clause-levels : goal.new-requires-clause-levels
-new-requires-clause-levels g c = c.requires.levels
-
-pub new-requires-clause-frames : goal.new-requires-clause-frames
-new-requires-clause-frames g c = c.requires.frames
-
-pub look_at_all-requires-clause-flow : goal.look_at_all-requires-clause-flow
-look_at_all-requires-clause-flow g c = c.in_ok-flow.ensures.flow
+pub new-requires : goal.new-requires
+new-requires g c = record { parts = record { shaped = c.requires.shaped; seats = c.requires.seats; sources = c.requires.sources; levels = c.requires.levels; frames = c.requires.frames } }
 
 pub returns-clause-flow : goal.returns-clause-flow
 returns-clause-flow g c = rw c.look_at_all.ensures.flow c.in_ok-flow.ensures.parts

@@ -36,20 +36,8 @@ returns-in-Ok-clause-ok g c =
           (subst (λ n. Took n c.in-Ok.progress.fed c.in-Ok.progress.finished a.flow c.train.new.self) (sym place_is) (train.took ready.running));
     }
 
-pub returns-in-Err-clause-err : goal.returns-in-Err-clause-err
-returns-in-Err-clause-err g c = c.in-Err.ensures.err
-
-pub train-requires-clause-flow : goal.train-requires-clause-flow
-train-requires-clause-flow g c = c.requires.engine.flow
-
-pub train-requires-clause-together : goal.train-requires-clause-together
-train-requires-clause-together g c = c.requires.together
+pub train-requires-clause-holds : goal.train-requires-clause-holds
+train-requires-clause-holds g c = record { flow = c.requires.engine.flow; together = c.requires.together }
 
 pub train-requires-clause-actor_in : goal.train-requires-clause-actor_in
 train-requires-clause-actor_in g c = subst (λ (n : ℕ). c.seat_number-place.result ≤ n) c.requires.engine.flow.shaped.replay_is c.seat_number-place.ensures.within
-
-pub look_at-requires-clause-flow : goal.look_at-requires-clause-flow
-look_at-requires-clause-flow g c = c.in-Ok.ensures.ok.moves.stepped.flow_after
-
-pub look_at_readers-requires-clause-flow : goal.look_at_readers-requires-clause-flow
-look_at_readers-requires-clause-flow g c = rw c.look_at.ensures.flow c.in-Ok.ensures.ok.moves.stepped.flow_after

@@ -7,9 +7,9 @@ pub returns : goal.returns
 returns g c =
     let told = c.end_arcs.ensures in
     record {
-      stepped = λ pages events together. ended-stepped _ c.args.self.now c.requires.flow pages c.end_arcs.new.queues events together c.requires.none told.size told.frames told.ended told.items told.together;
+      stepped = λ pages events together. ended-stepped _ c.args.self.now c.requires.flow pages c.end_arcs.new.queues events together c.requires.none told;
       closes = λ table agrees. agrees;
-      touches = ended-touches _ c.args.self.now c.requires.flow c.end_arcs.new.queues told.ended told.first told.apart;
+      touches = ended-touches _ c.args.self.now c.requires.flow c.end_arcs.new.queues told;
       taken = refl;
       lowers = rw c.requires.running (omega arith);
       took = replay-took c.args.self.now _ 0 true refl (omega arith) refl;

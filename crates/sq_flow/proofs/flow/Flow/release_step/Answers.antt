@@ -13,7 +13,6 @@ use Rattle.sq_replay.specs.RecordedTuples.{Recorded}
 use Rattle.sq_flow.specs.Flows.{tuples_to_come}
 use Rattle.sq_flow.specs.Sources.{BeginsLeast, IsNextSource}
 use Rattle.sq_flow.proofs.WireLemmas.{arcs-open}
-use Rattle.sq_flow.proofs.PlanLemmas.{few-each}
 use Rattle.sq_flow.proofs.CauseLemmas.{cause-in, counts-none, feeds-none, none-too-much}
 use Rattle.sq_flow.proofs.ReleasedPlans.{ClosedBefore, agrees-before, in-time, sound, not-before, closed-len, closed-low, mid-len, plans-front, plans-none, plans-stay}
 use Rattle.sq_flow.proofs.ReplayFlow.{replay-open, replay-runs, item-sound, released-stepped, released-touches, lines-stay, count-less}
@@ -33,46 +32,36 @@ returns-in-Ok-clause-ok g c =
     let at = slice_get_read sources _ c.args.source c.index_mut.result.now refl c.requires.next.there c.index_mut.ensures.value in
     let pos : 0 < c.args.self.now.levels.epoch = omega (arith, c.epoch.ensures.epoch, c.epoch.ensures.lasts) in
     let next_is = next-is _ _ _ _ c.epoch_of-next.ensures c.epoch.ensures.epoch in
-    let part = c.in_ok-close_before.ensures.closes in
-    let done = c.in_ok-close_before.ensures.ok in
     let did = subst (λ (n : ℕ). ClosedBefore c.args.self.now.planner c.close_before.new.planner c.args.self.now.levels c.close_before.new.levels c.args.self.now.counts.items c.close_before.new.counts.items
     n c.args.events.now.items c.close_before.new.events.items) next_is
-    (record {
-      same = part.same;
-      epoch = part.epoch;
-      closed = done.closed;
-      keeps = part.keeps;
-      counts = done.counts;
-      agrees = part.agrees;
-      plans = done.plans;
-      lines = part.lines;
-      drops = part.drops;
-      within = part.within;
-    }) in
-    let len = mid-len _ c.args.self.now c.requires.holds.flow pos c.args.source c.index_mut.result.now c.first_of.new.stream c.in_ok-tuple.tuple c.requires.next at c.in_ok-tuple.ensures.ok _ _ _ _ _ did in
-    let within : c.args.source < length c.close_before.new.counts.items = omega (arith, len, c.requires.holds.flow.replay.counted, c.requires.next.there) in
+    (record { some = c.in_ok-close_before.ensures.closes; all = c.in_ok-close_before.ensures.ok }) in
+    let len = mid-len _ c.args.self.now c.requires.may.holds.flow pos c.args.source c.index_mut.result.now c.first_of.new.stream c.in_ok-tuple.tuple c.requires.next at c.in_ok-tuple.ensures.ok _ _ _ _ _ did in
+    let within : c.args.source < length c.close_before.new.counts.items = omega (arith, len, c.requires.may.holds.flow.replay.counted, c.requires.next.there) in
     let read = get_or_from_slice_get c.close_before.new.counts.items c.args.source c.index_mut-2.result.now 0
     (slice_get_read c.close_before.new.counts.items _ c.args.source c.index_mut-2.result.now refl within c.index_mut-2.ensures.value) in
     let counted = ap (λ n. set c.close_before.new.counts.items c.args.source (n + 1)) (sym read) in
     let less = count-less sources c.args.source c.index_mut.result.now c.first_of.new.stream c.in_ok-tuple.tuple at c.in_ok-tuple.ensures.ok in
     λ n. record {
-      moves = record {
-        stepped =
-            released-stepped _ c.args.self.now c.requires.holds.flow pos c.args.source c.index_mut.result.now c.first_of.new.stream c.in_ok-tuple.tuple c.requires.next at c.in_ok-tuple.ensures.ok _ _ _ _ _ did
-            (with_item c.args.self.now.sources c.args.source c.first_of.new.stream) (with_item c.close_before.new.counts c.args.source (c.index_mut-2.result.now + 1)) refl counted
-            (known (g.D.PageDisk.log c.args.disk.now)) (known (g.D.PageDisk.log c.send_one.new.disk)) c.send_one.new.queues c.requires.holds.together (rw (c.none.ensures, c.some.ensures) at c.in-Ok.ensures.sent);
-        keeps = record { faults = c.in-Ok.ensures.faults; later = c.in-Ok.ensures.later; stay = c.in_ok-close_before.ensures.closes.stay };
-        touches =
-            released-touches _ c.args.self.now c.requires.holds.flow pos c.args.source c.index_mut.result.now c.first_of.new.stream c.in_ok-tuple.tuple c.requires.next at c.in_ok-tuple.ensures.ok
-            (known (g.D.PageDisk.log c.args.disk.now)) (known (g.D.PageDisk.log c.send_one.new.disk)) c.send_one.new.queues (with_item c.args.self.now.sources c.args.source c.first_of.new.stream) c.close_before.new.planner c.close_before.new.levels
-            (with_item c.close_before.new.counts c.args.source (c.index_mut-2.result.now + 1)) (rw (c.none.ensures, c.some.ensures) at c.in-Ok.ensures.sent);
-        cost = refl;
+      whole = c.in-Ok.ensures.ok.whole;
+      step = record {
+        moves = record {
+          stepped =
+              released-stepped _ c.args.self.now c.requires.may.holds.flow pos c.args.source c.index_mut.result.now c.first_of.new.stream c.in_ok-tuple.tuple c.requires.next at c.in_ok-tuple.ensures.ok _ _ _ _ _ did
+              (with_item c.args.self.now.sources c.args.source c.first_of.new.stream) (with_item c.close_before.new.counts c.args.source (c.index_mut-2.result.now + 1)) refl counted
+              (known (g.D.PageDisk.log c.args.disk.now)) (known (g.D.PageDisk.log c.send_one.new.disk)) c.send_one.new.queues c.requires.may.holds.together (rw (c.none.ensures, c.some.ensures) at c.in-Ok.ensures.ok.sent);
+          keeps = record { faults = c.in-Ok.ensures.disk.faults; later = c.in-Ok.ensures.disk.later; stay = c.in_ok-close_before.ensures.closes.stay };
+          touches =
+              released-touches _ c.args.self.now c.requires.may.holds.flow pos c.args.source c.index_mut.result.now c.first_of.new.stream c.in_ok-tuple.tuple c.requires.next at c.in_ok-tuple.ensures.ok
+              (known (g.D.PageDisk.log c.args.disk.now)) (known (g.D.PageDisk.log c.send_one.new.disk)) c.send_one.new.queues (with_item c.args.self.now.sources c.args.source c.first_of.new.stream) c.close_before.new.planner c.close_before.new.levels
+              (with_item c.close_before.new.counts c.args.source (c.index_mut-2.result.now + 1)) (rw (c.none.ensures, c.some.ensures) at c.in-Ok.ensures.ok.sent);
+          cost = refl;
+        };
+        lowers = omega (arith, less);
+        took =
+            replay-took c.args.self.now _ 1 false refl less
+            (sym (replay-runs _ c.args.self.now c.requires.may.holds.flow pos c.args.source c.index_mut.result.now c.first_of.new.stream c.in_ok-tuple.tuple c.requires.next at c.in_ok-tuple.ensures.ok));
+        waits = tt;
       };
-      lowers = omega (arith, less);
-      took =
-          replay-took c.args.self.now _ 1 false refl less
-          (sym (replay-runs _ c.args.self.now c.requires.holds.flow pos c.args.source c.index_mut.result.now c.first_of.new.stream c.in_ok-tuple.tuple c.requires.next at c.in_ok-tuple.ensures.ok));
-      waits = tt;
     }
 
 pub returns-in_err-tuple-clause-err : goal.returns-in_err-tuple-clause-err
@@ -86,8 +75,8 @@ returns-in_err-tuple-clause-err g c =
       plans = plans-stay c.args.self.now c.args.events.now.items c.args.events.now.items refl;
       strange = λ told table agrees holds. tt;
       cause = tt;
-      feed = fails-here _ _ _ _ _ _ _ c.requires.holds.flow c.requires.holds.together (IsLater-refl _) tt;
-      cost = costs-none _ c.args.self.now c.requires.holds.flow (known (g.D.PageDisk.log c.args.disk.now)) (known (g.D.PageDisk.log c.args.disk.now)) c.args.self.now.levels n n refl;
+      feed = fails-here _ _ _ _ _ _ _ c.requires.may.holds.flow c.requires.may.holds.together (IsLater-refl _) tt;
+      cost = costs-none _ c.args.self.now c.requires.may.holds.flow (known (g.D.PageDisk.log c.args.disk.now)) (known (g.D.PageDisk.log c.args.disk.now)) c.args.self.now.levels n n refl;
       too_much = none-too-much _ _ _ _ _ _ (λ same. cc same);
     })
 
@@ -104,14 +93,14 @@ returns-in_err-close_before-clause-err g c =
       closes = agrees-before c.args.self.now.levels c.close_before.new.levels c.in_err-close_before.ensures.closes.keeps c.in_err-close_before.ensures.closes.grows;
       prefix = lines-stay _ (known (g.D.PageDisk.log c.args.disk.now)) (known (g.D.PageDisk.log c.args.disk.now)) c.args.self.now c.close_before.new.levels c.args.events.now.items c.close_before.new.events.items c.in_err-close_before.ensures.closes.lines c.in_err-close_before.ensures.closes.drops;
       plans =
-          plans-none _ c.args.self.now c.requires.holds.flow pos c.args.source c.index_mut.result.now c.first_of.new.stream c.in_ok-tuple.tuple c.requires.next at c.in_ok-tuple.ensures.ok c.close_before.new.levels c.args.events.now.items c.close_before.new.events.items
+          plans-none _ c.args.self.now c.requires.may.holds.flow pos c.args.source c.index_mut.result.now c.first_of.new.stream c.in_ok-tuple.tuple c.requires.next at c.in_ok-tuple.ensures.ok c.close_before.new.levels c.args.events.now.items c.close_before.new.events.items
           (λ all. subst (λ (n : ℕ). (c.args.self.now.levels.closed < n + 1 → Ended all (c.args.self.now.levels.closed - 1) n c.args.self.now.counts.items)
           → AgreesWith c.args.self.now.levels (level_for c.args.self.now.planner all) → AgreesWith c.close_before.new.levels (level_for c.args.self.now.planner all)) next_is (c.in_err-close_before.ensures.closes.agrees all))
           c.in_err-close_before.ensures.err;
       strange = λ told table agrees holds. tt;
       cause = tt;
-      feed = fails-here _ _ _ _ _ _ _ c.requires.holds.flow c.requires.holds.together (IsLater-refl _) tt;
-      cost = costs-none _ c.args.self.now c.requires.holds.flow (known (g.D.PageDisk.log c.args.disk.now)) (known (g.D.PageDisk.log c.args.disk.now)) c.close_before.new.levels n n refl;
+      feed = fails-here _ _ _ _ _ _ _ c.requires.may.holds.flow c.requires.may.holds.together (IsLater-refl _) tt;
+      cost = costs-none _ c.args.self.now c.requires.may.holds.flow (known (g.D.PageDisk.log c.args.disk.now)) (known (g.D.PageDisk.log c.args.disk.now)) c.close_before.new.levels n n refl;
       too_much = none-too-much _ _ _ _ _ _ (λ same. cc same);
     })
 
@@ -121,57 +110,43 @@ returns-in-Err-clause-err g c =
     let at = slice_get_read sources _ c.args.source c.index_mut.result.now refl c.requires.next.there c.index_mut.ensures.value in
     let pos : 0 < c.args.self.now.levels.epoch = omega (arith, c.epoch.ensures.epoch, c.epoch.ensures.lasts) in
     let next_is = next-is _ _ _ _ c.epoch_of-next.ensures c.epoch.ensures.epoch in
-    let part = c.in_ok-close_before.ensures.closes in
-    let done = c.in_ok-close_before.ensures.ok in
     let did = subst (λ (n : ℕ). ClosedBefore c.args.self.now.planner c.close_before.new.planner c.args.self.now.levels c.close_before.new.levels c.args.self.now.counts.items c.close_before.new.counts.items
     n c.args.events.now.items c.close_before.new.events.items) next_is
-    (record {
-      same = part.same;
-      epoch = part.epoch;
-      closed = done.closed;
-      keeps = part.keeps;
-      counts = done.counts;
-      agrees = part.agrees;
-      plans = done.plans;
-      lines = part.lines;
-      drops = part.drops;
-      within = part.within;
-    }) in
-    let len = mid-len _ c.args.self.now c.requires.holds.flow pos c.args.source c.index_mut.result.now c.first_of.new.stream c.in_ok-tuple.tuple c.requires.next at c.in_ok-tuple.ensures.ok _ _ _ _ _ did in
-    let within : c.args.source < length c.close_before.new.counts.items = omega (arith, len, c.requires.holds.flow.replay.counted, c.requires.next.there) in
+    (record { some = c.in_ok-close_before.ensures.closes; all = c.in_ok-close_before.ensures.ok }) in
+    let len = mid-len _ c.args.self.now c.requires.may.holds.flow pos c.args.source c.index_mut.result.now c.first_of.new.stream c.in_ok-tuple.tuple c.requires.next at c.in_ok-tuple.ensures.ok _ _ _ _ _ did in
+    let within : c.args.source < length c.close_before.new.counts.items = omega (arith, len, c.requires.may.holds.flow.replay.counted, c.requires.next.there) in
     let read = get_or_from_slice_get c.close_before.new.counts.items c.args.source c.index_mut-2.result.now 0
     (slice_get_read c.close_before.new.counts.items _ c.args.source c.index_mut-2.result.now refl within c.index_mut-2.ensures.value) in
     let counted = ap (λ n. set c.close_before.new.counts.items c.args.source (n + 1)) (sym read) in
     rw (c.fault_of.ensures, c.take.ensures.value)
     (λ n. record {
-      keeps = record { faults = c.in-Err.ensures.faults; later = c.in-Err.ensures.later; stay = c.in_ok-close_before.ensures.closes.stay };
+      keeps = record { faults = c.in-Err.ensures.disk.faults; later = c.in-Err.ensures.disk.later; stay = c.in_ok-close_before.ensures.closes.stay };
       closes = agrees-before c.args.self.now.levels c.close_before.new.levels c.in_ok-close_before.ensures.closes.keeps c.in_ok-close_before.ensures.closes.grows;
       prefix = lines-stay _ (known (g.D.PageDisk.log c.args.disk.now)) (known (g.D.PageDisk.log c.send_one.new.disk)) c.args.self.now c.close_before.new.levels c.args.events.now.items c.close_before.new.events.items c.in_ok-close_before.ensures.closes.lines c.in_ok-close_before.ensures.closes.drops;
       plans =
-          plans-front _ c.args.self.now c.requires.holds.flow pos c.args.source c.index_mut.result.now c.first_of.new.stream c.in_ok-tuple.tuple c.requires.next at c.in_ok-tuple.ensures.ok _ _ _ _ _ did
+          plans-front _ c.args.self.now c.requires.may.holds.flow pos c.args.source c.index_mut.result.now c.first_of.new.stream c.in_ok-tuple.tuple c.requires.next at c.in_ok-tuple.ensures.ok _ _ _ _ _ did
           c.send_one.new.queues (with_item c.args.self.now.sources c.args.source c.first_of.new.stream) (with_item c.close_before.new.counts c.args.source (c.index_mut-2.result.now + 1)) refl counted;
-      strange = λ told table agrees holds. c.in-Err.ensures.fails.honest told;
-      cause = cause-in _ _ _ _ _ _ c.in-Err.ensures.fails.cause;
-      feed = fails-here _ _ _ _ _ _ _ c.requires.holds.flow c.requires.holds.together c.in-Err.ensures.later (feeds-none _ _ _ _ _ _ _ _ _ _ c.in-Err.ensures.fails.cause);
-      cost = costs-none _ c.args.self.now c.requires.holds.flow (known (g.D.PageDisk.log c.args.disk.now)) (known (g.D.PageDisk.log c.send_one.new.disk)) c.close_before.new.levels n n refl;
-      too_much = none-too-much _ _ _ _ _ _ (counts-none _ _ _ _ _ _ c.in-Err.ensures.fails.cause);
+      strange = λ told table agrees holds. c.in-Err.ensures.err.fails.honest told;
+      cause = cause-in _ _ _ _ _ _ c.in-Err.ensures.err.fails.cause;
+      feed = fails-here _ _ _ _ _ _ _ c.requires.may.holds.flow c.requires.may.holds.together c.in-Err.ensures.disk.later (feeds-none _ _ _ _ _ _ _ _ _ _ c.in-Err.ensures.err.fails.cause);
+      cost = costs-none _ c.args.self.now c.requires.may.holds.flow (known (g.D.PageDisk.log c.args.disk.now)) (known (g.D.PageDisk.log c.send_one.new.disk)) c.close_before.new.levels n n refl;
+      too_much = none-too-much _ _ _ _ _ _ (counts-none _ _ _ _ _ _ c.in-Err.ensures.err.fails.cause);
     })
 
-pub send_one-requires-clause-there : goal.send_one-requires-clause-there
-send_one-requires-clause-there g c =
+pub send_one-requires-clause-may : goal.send_one-requires-clause-may
+send_one-requires-clause-may g c =
     let sources = c.args.self.now.sources.items in
     let at = slice_get_read sources _ c.args.source c.index_mut.result.now refl c.requires.next.there c.index_mut.ensures.value in
     let pos : 0 < c.args.self.now.levels.epoch = omega (arith, c.epoch.ensures.epoch, c.epoch.ensures.lasts) in
-    arcs-open _ c.args.self.now c.requires.holds.flow c.args.self.now.wires.replay
-    (replay-open _ c.args.self.now c.requires.holds.flow (replay-runs _ c.args.self.now c.requires.holds.flow pos c.args.source c.index_mut.result.now c.first_of.new.stream c.in_ok-tuple.tuple c.requires.next at c.in_ok-tuple.ensures.ok)) c.args.source
-
-pub send_one-requires-clause-sound : goal.send_one-requires-clause-sound
-send_one-requires-clause-sound g c =
-    let sources = c.args.self.now.sources.items in
-    let at = slice_get_read sources _ c.args.source c.index_mut.result.now refl c.requires.next.there c.index_mut.ensures.value in
-    let pos : 0 < c.args.self.now.levels.epoch = omega (arith, c.epoch.ensures.epoch, c.epoch.ensures.lasts) in
-    rw (c.none.ensures, c.some.ensures)
-    (item-sound _ c.args.self.now c.requires.holds.flow pos c.args.source c.index_mut.result.now c.first_of.new.stream c.in_ok-tuple.tuple c.requires.next at c.in_ok-tuple.ensures.ok)
+    record {
+      there =
+          arcs-open _ c.args.self.now c.requires.may.holds.flow c.args.self.now.wires.replay
+          (replay-open _ c.args.self.now c.requires.may.holds.flow (replay-runs _ c.args.self.now c.requires.may.holds.flow pos c.args.source c.index_mut.result.now c.first_of.new.stream c.in_ok-tuple.tuple c.requires.next at c.in_ok-tuple.ensures.ok)) c.args.source;
+      sound =
+          rw (c.none.ensures, c.some.ensures)
+          (item-sound _ c.args.self.now c.requires.may.holds.flow pos c.args.source c.index_mut.result.now c.first_of.new.stream c.in_ok-tuple.tuple c.requires.next at c.in_ok-tuple.ensures.ok);
+      together = c.requires.may.holds.together;
+    }
 
 -- something is left of the source that releases next
 some-left : (sources : List Recorded) (source : ℕ) (v : Recorded) → IsNextSource sources source → slice_get sources source ≡ Some v → 0 < length v.items
@@ -183,11 +158,11 @@ some-left sources source v next at = by v.items (subst (λ o. BeginsLeast source
 
 pub first_of-requires : goal.first_of-requires
 first_of-requires g c =
-    some-left c.args.self.now.sources.items c.args.source c.index_mut.result.now c.requires.next
-    (slice_get_read c.args.self.now.sources.items _ c.args.source c.index_mut.result.now refl c.requires.next.there c.index_mut.ensures.value)
-
-pub close_before-requires-clause-counts : goal.close_before-requires-clause-counts
-close_before-requires-clause-counts g c = few-each c.args.self.now.counts.items (λ k. let few = c.requires.holds.flow.replay.few_tuples k in omega (arith, few))
+    record {
+      some = some-left c.args.self.now.sources.items c.args.source c.index_mut.result.now c.requires.next
+          (slice_get_read c.args.self.now.sources.items _ c.args.source c.index_mut.result.now refl c.requires.next.there c.index_mut.ensures.value);
+      empty = c.reuse-values.ensures;
+    }
 
 pub epoch_of-next-requires-clause-later : goal.epoch_of-next-requires-clause-later
 epoch_of-next-requires-clause-later g c =
@@ -195,7 +170,7 @@ epoch_of-next-requires-clause-later g c =
     let at = slice_get_read sources _ c.args.source c.index_mut.result.now refl c.requires.next.there c.index_mut.ensures.value in
     let pos : 0 < c.args.self.now.levels.epoch = omega (arith, c.epoch.ensures.epoch, c.epoch.ensures.lasts) in
     rw c.closed.ensures.closed (subst (λ (n : ℕ). c.args.self.now.levels.closed ≤ c.in_ok-tuple.tuple.time / n + 1) (sym c.epoch.ensures.epoch)
-    (not-before _ c.args.self.now c.requires.holds.flow pos c.args.source c.index_mut.result.now c.first_of.new.stream c.in_ok-tuple.tuple c.requires.next at c.in_ok-tuple.ensures.ok))
+    (not-before _ c.args.self.now c.requires.may.holds.flow pos c.args.source c.index_mut.result.now c.first_of.new.stream c.in_ok-tuple.tuple c.requires.next at c.in_ok-tuple.ensures.ok))
 
 pub close_before-requires-clause-later : goal.close_before-requires-clause-later
 close_before-requires-clause-later g c =
@@ -204,7 +179,7 @@ close_before-requires-clause-later g c =
     let pos : 0 < c.args.self.now.levels.epoch = omega (arith, c.epoch.ensures.epoch, c.epoch.ensures.lasts) in
     let next_is = next-is _ _ _ _ c.epoch_of-next.ensures c.epoch.ensures.epoch in
     subst (λ (n : ℕ). c.args.self.now.levels.closed ≤ n + 1) (sym next_is)
-    (not-before _ c.args.self.now c.requires.holds.flow pos c.args.source c.index_mut.result.now c.first_of.new.stream c.in_ok-tuple.tuple c.requires.next at c.in_ok-tuple.ensures.ok)
+    (not-before _ c.args.self.now c.requires.may.holds.flow pos c.args.source c.index_mut.result.now c.first_of.new.stream c.in_ok-tuple.tuple c.requires.next at c.in_ok-tuple.ensures.ok)
 
 pub index_mut-requires : goal.index_mut-requires
 index_mut-requires g c = omega (arith, c.requires.next.there, c.args.self.now.sources.ok.0)
@@ -212,22 +187,19 @@ index_mut-requires g c = omega (arith, c.requires.next.there, c.args.self.now.so
 pub index_mut-requires-2 : goal.index_mut-requires-2
 index_mut-requires-2 g c =
     let len = closed-len _ c.args.self.now.counts.items c.close_before.new.counts.items c.in_ok-close_before.ensures.ok.counts in
-    omega (arith, len, c.requires.holds.flow.replay.counted, c.requires.next.there, c.close_before.new.counts.ok.0)
-
-pub send_one-requires-clause-together : goal.send_one-requires-clause-together
-send_one-requires-clause-together g c = c.requires.holds.together
+    omega (arith, len, c.requires.may.holds.flow.replay.counted, c.requires.next.there, c.close_before.new.counts.ok.0)
 
 pub send_one-requires-clause-within : goal.send_one-requires-clause-within
-send_one-requires-clause-within g c = let many = c.requires.holds.flow.shaped.readers_len in let replay = c.requires.holds.flow.shaped.replay_is in omega (arith, many, replay)
+send_one-requires-clause-within g c = let many = c.requires.may.holds.flow.shaped.readers_len in let replay = c.requires.may.holds.flow.shaped.replay_is in omega (arith, many, replay)
 
 pub overflow_add-index_mut : goal.overflow_add-index_mut
 overflow_add-index_mut g c =
     let len = closed-len _ c.args.self.now.counts.items c.close_before.new.counts.items c.in_ok-close_before.ensures.ok.counts in
-    let within : c.args.source < length c.close_before.new.counts.items = omega (arith, len, c.requires.holds.flow.replay.counted, c.requires.next.there) in
+    let within : c.args.source < length c.close_before.new.counts.items = omega (arith, len, c.requires.may.holds.flow.replay.counted, c.requires.next.there) in
     let read = get_or_from_slice_get c.close_before.new.counts.items c.args.source c.index_mut-2.result.now 0
     (slice_get_read c.close_before.new.counts.items _ c.args.source c.index_mut-2.result.now refl within c.index_mut-2.ensures.value) in
     let low = closed-low _ c.args.self.now.counts.items c.close_before.new.counts.items c.in_ok-close_before.ensures.ok.counts c.args.source in
-    let few = c.requires.holds.flow.replay.few_tuples c.args.source in
+    let few = c.requires.may.holds.flow.replay.few_tuples c.args.source in
     record { fits = omega (arith, read, low, few) }
 
 pub close_before-requires-clause-fits : goal.close_before-requires-clause-fits
@@ -235,7 +207,7 @@ close_before-requires-clause-fits g c =
     let sources = c.args.self.now.sources.items in
     let at = slice_get_read sources _ c.args.source c.index_mut.result.now refl c.requires.next.there c.index_mut.ensures.value in
     let pos : 0 < c.args.self.now.levels.epoch = omega (arith, c.epoch.ensures.epoch, c.epoch.ensures.lasts) in
-    let low = (in-time _ c.args.self.now c.requires.holds.flow pos c.args.source c.index_mut.result.now c.first_of.new.stream c.in_ok-tuple.tuple c.requires.next at c.in_ok-tuple.ensures.ok).1 in
+    let low = (in-time _ c.args.self.now c.requires.may.holds.flow pos c.args.source c.index_mut.result.now c.first_of.new.stream c.in_ok-tuple.tuple c.requires.next at c.in_ok-tuple.ensures.ok).1 in
     omega (arith, low, c.epoch_of-next.ensures, div-le_self c.in_ok-tuple.tuple.time c.epoch.result)
 
 pub some-requires : goal.some-requires
@@ -243,11 +215,5 @@ some-requires g c =
     let sources = c.args.self.now.sources.items in
     let at = slice_get_read sources _ c.args.source c.index_mut.result.now refl c.requires.next.there c.index_mut.ensures.value in
     let pos : 0 < c.args.self.now.levels.epoch = omega (arith, c.epoch.ensures.epoch, c.epoch.ensures.lasts) in
-    let low = (sound _ c.args.self.now c.requires.holds.flow pos c.args.source c.index_mut.result.now c.first_of.new.stream c.in_ok-tuple.tuple c.requires.next at c.in_ok-tuple.ensures.ok).1 in
+    let low = (sound _ c.args.self.now c.requires.may.holds.flow pos c.args.source c.index_mut.result.now c.first_of.new.stream c.in_ok-tuple.tuple c.requires.next at c.in_ok-tuple.ensures.ok).1 in
     omega (arith, low)
-
-pub send_one-requires-clause-whole : goal.send_one-requires-clause-whole
-send_one-requires-clause-whole g c = c.requires.whole
-
-pub returns-in-Ok-clause-whole : goal.returns-in-Ok-clause-whole
-returns-in-Ok-clause-whole g c = c.in-Ok.ensures.whole

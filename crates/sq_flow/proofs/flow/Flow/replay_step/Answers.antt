@@ -9,38 +9,21 @@ pub returns-in-None-clause-ok : goal.returns-in-None-clause-ok
 returns-in-None-clause-ok g c =
     let end = c.end_step.ensures in
     λ n. record {
-      moves = record {
-        stepped = end.stepped (known (g.D.PageDisk.log c.args.disk.now)) c.args.events.now.items c.requires.holds.together;
-        keeps = record { faults = le_refl _; later = IsLater-refl _; stay = prefix_itself _ };
-        touches = end.touches;
-        cost = ap (λ k. n + k) (sym end.taken);
-      };
-      lowers = end.lowers;
-      took = end.took;
-      waits = tt;
+      step =
+          record {
+            moves = record {
+              stepped = end.stepped (known (g.D.PageDisk.log c.args.disk.now)) c.args.events.now.items c.requires.may.holds.together;
+              keeps = record { faults = le_refl _; later = IsLater-refl _; stay = prefix_itself _ };
+              touches = end.touches;
+              cost = ap (λ k. n + k) (sym end.taken);
+            };
+            lowers = end.lowers;
+            took = end.took;
+            waits = tt;
+          };
+      whole = c.requires.may.whole;
     }
-
-pub returns-in_ok-release_step-in-Some-clause-ok : goal.returns-in_ok-release_step-in-Some-clause-ok
-returns-in_ok-release_step-in-Some-clause-ok g c = c.in_ok-release_step-in-Some.ensures.ok
 
 pub returns-in_err-release_step-in-Some-clause-err : goal.returns-in_err-release_step-in-Some-clause-err
 returns-in_err-release_step-in-Some-clause-err g c =
     let p = err_from_is_err_and c.from_residual.result c.from_residual.ensures.1 in rw (p.1, p.2) c.in_err-release_step-in-Some.ensures.err
-
-pub release_step-requires-clause-holds : goal.release_step-requires-clause-holds
-release_step-requires-clause-holds g c = c.requires.holds
-
-pub end_step-requires-clause-flow : goal.end_step-requires-clause-flow
-end_step-requires-clause-flow g c = c.requires.holds.flow
-
-pub end_step-requires-clause-running : goal.end_step-requires-clause-running
-end_step-requires-clause-running g c = c.requires.running
-
-pub release_step-requires-clause-whole : goal.release_step-requires-clause-whole
-release_step-requires-clause-whole g c = c.requires.whole
-
-pub returns-in-None-clause-whole : goal.returns-in-None-clause-whole
-returns-in-None-clause-whole g c = c.requires.whole
-
-pub returns-in_ok-release_step-in-Some-clause-whole : goal.returns-in_ok-release_step-in-Some-clause-whole
-returns-in_ok-release_step-in-Some-clause-whole g c = c.in_ok-release_step-in-Some.ensures.whole

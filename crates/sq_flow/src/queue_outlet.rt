@@ -4,6 +4,7 @@ ghost use Rattle.std.specs.Prelude.{◌≡◌};
 ghost use Rattle.sq_flow.specs.Causes.{fault_or};
 
 use crate::errors::RunErr;
+use crate::fed_items::FedItems;
 use crate::noted::Noted;
 use crate::sending::{pass_on, show_drop};
 use crate::wires::Wires;
@@ -11,24 +12,26 @@ use sq_item::Item;
 use sq_oper::{Decision, Event, Outlet};
 use sq_outside::PageDisk;
 use sq_queue::Queues;
+use sq_value::Fields;
 use std::alloc::{AllocError, Global};
 
 /// The outlet of an actor: its items go into the queues of the arcs that come from it, or are shown, and its decisions are shown.
 /// It keeps the fault that it met.
-pub(crate) struct Onward<'a, 'b, 'c, 'd, 'e, D: PageDisk> {
+pub(crate) struct QueueOutlet<'a, 'b, 'c, 'd, 'e, D: PageDisk> {
     pub wires: &'a Wires,
     pub queues: &'b mut Queues,
     pub disk: &'c mut D,
     pub events: &'d mut Vec<Event>,
     pub actor: u32,
     pub failed: &'e mut Option<RunErr>,
+    pub given: FedItems,
     pub noted: Noted,
 }
 
-impl<D: PageDisk> Outlet for Onward<'_, '_, '_, '_, '_, D> {
-    ghost use Rattle.sq_flow.specs.Onwards.{IsOpen, Came};
+impl<D: PageDisk> Outlet for QueueOutlet<'_, '_, '_, '_, '_, D> {
+    ghost use Rattle.sq_flow.specs.QueueOutlets.{IsOpen, Came};
 
-    ghost items = { λ s. s.noted.items };
+    ghost items = { λ s. s.given.items };
 
     ghost drops = { λ s. s.noted.drops };
 
@@ -42,7 +45,7 @@ impl<D: PageDisk> Outlet for Onward<'_, '_, '_, '_, '_, D> {
 
     #[inline(always)]
     fn give(&mut self, port: u32, item: Item) -> Result<(), AllocError> {
-        let noted = self.noted.with(port, &item);
+        let given = self.given.with(port, &item);
         pass_on(
             self.wires,
             self.queues,
@@ -53,12 +56,17 @@ impl<D: PageDisk> Outlet for Onward<'_, '_, '_, '_, '_, D> {
             self.events,
             self.failed,
         )?;
-        self.noted = noted;
+        self.given = given;
         Ok(())
     }
 
+    #[inline(always)]
+    fn let_go(&mut self, fields: Fields) {
+        self.queues.spares.keep(fields);
+    }
+
     fn decide(&mut self, decision: Decision) -> Result<(), AllocError> {
-        let noted = self.noted.with_drop(&decision);
+        let noted = self.noted.with(&decision);
         show_drop(decision, self.events)?;
         self.noted = noted;
         Ok(())
