@@ -26,8 +26,8 @@ use Rattle.sq_model.proofs.ArcLemmas.{arcs_carry}
 use Rattle.sq_model.proofs.FullLemmas.{full_listed}
 use Rattle.sq_model.proofs.MeasuredLemmas.{all-measured}
 use Rattle.sq_model.proofs.PlacedLemmas.{placed_of}
-use Rattle.sq_verdict.specs.declared.verdict.Wanted.{Wanted}
-use Rattle.sq_verdict.specs.Wanting.{IsBelow}
+use Rattle.sq_wanted.specs.declared.wanted.Wanted.{Wanted}
+use Rattle.sq_wanted.specs.Showing.{IsBelow}
 use Rattle.sq_audit.specs.Audits.{above_of, wanted_of, wanted_one}
 use Rattle.sq_words.proofs.Alls.{all_at}
 use Rattle.sq_words.proofs.Lists.{length_map}

@@ -29,7 +29,8 @@ use Rattle.sq_model.proofs.ShedLemmas.{stream_ticks}
 use Rattle.sq_model.proofs.StreamLemmas.{full_are_streams, stream_at_number}
 use Rattle.sq_verdict.specs.declared.verdict.Verdict.TheVariants as verdict
 use Rattle.sq_verdict.specs.Faults.{batch_of, drop_told_in, recorded, batch_rises, is_level, verdict_on}
-use Rattle.sq_verdict.specs.Wanting.{is_left, shown_of, shown_one}
+use Rattle.sq_verdict.specs.Wanting.{shown_of}
+use Rattle.sq_wanted.specs.Showing.{is_left, shown_one}
 use Rattle.sq_verdict.specs.WholeTexts.{AreEnds, Expected, IsWhole}
 use Rattle.sq_verdict.proofs.Accepts.{recorded_of_class, whole_is_yes}
 use Rattle.sq_verdict.proofs.DropLines.{IsTick, drops_have_class, read_back}

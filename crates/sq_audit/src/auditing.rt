@@ -11,43 +11,21 @@ ghost use Rattle.sq_points.specs.Above.{first_drop};
 
 use sq_model::{full_streams, sound_is_placed};
 use sq_net::{Network, Output};
-use sq_place::{DropPoint, PlaceErr};
-use sq_points::network_points;
+use sq_place::DropPoint;
+use sq_points::{above_output, points_in};
 use sq_value::{Tuple, copy_name, copy_tuple};
 use sq_verdict::{Verdict, Wanted, verdict_of};
 use std::alloc::{AllocError, Global};
-
-// The drop points of a network that keeps their limits, so only want of memory is left to refuse them.
-fn points_in(alloc: Global, n: &Network) -> Result<Vec<DropPoint>, AllocError>
-    requires sound { IsSound n.now }
-    requires limits { KeepsDropLimits n.now }
-    ensures { IfOk result (λ v. v.items ≡ points_of n.now) }
-{
-    match network_points(alloc, n) {
-        Ok(points) => Ok(points),
-        Err(PlaceErr::Memory) => Err(AllocError),
-        Err(PlaceErr::LongBatch { .. }) => unreachable!(),
-        Err(PlaceErr::WideExtent { .. }) => unreachable!(),
-    }
-}
-
-fn is_above(p: &DropPoint, output: u32) -> bool
-    ensures { result ≡ contains_number p.now.outputs output }
-{
-    p.outputs.as_slice().contains(&output)
-}
 
 // The number of the first drop below which an output lies, and the length of its batches.
 fn above(points: &[DropPoint], output: u32) -> Option<(u32, u64)>
     requires { length points.now < 2 ^ 32 }
     ensures { result ≡ above_of (first_drop (λ p. contains_number p.outputs output) 0 points.now) }
 {
-    for (w, p) in points.iter().enumerate() {
-        if is_above(p, output) {
-            return Some((w as u32, p.length));
-        }
+    match above_output(points, output) {
+        Some(w) => Some((w as u32, points[w].length)),
+        None => None,
     }
-    None
 }
 
 // What is asked of an output.

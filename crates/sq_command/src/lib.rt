@@ -8,7 +8,7 @@ mod words;
 
 use sq_sched::Rule;
 use sq_value::Name;
-pub use words::read_words;
+pub use words::{may_name, read_words};
 
 /// What the words of a run ask for.
 #[derive(Drop)]

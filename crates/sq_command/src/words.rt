@@ -28,14 +28,14 @@ enum Piece<'a> {
 
 /// A value, and the option that it is given to. None is for a word that stands by itself.
 #[derive(Clone, Copy, Drop)]
-struct Given<'a> {
+struct OptionGiven<'a> {
     option: Option<&'a str>,
     value: &'a str,
 }
 
 /// What is asked for, in the words' own bytes.
 #[derive(Clone, Copy, Drop)]
-struct Wanted<'a> {
+struct RunWords<'a> {
     net: &'a str,
     capacities: Option<&'a str>,
     seed: u64,
@@ -87,7 +87,7 @@ fn piece_of(word: &str) -> Piece<'_>
 }
 
 /// What the words give, or Usage where one isn't allowed at its place.
-fn read_given(alloc: Global, words: &[String]) -> Result<Vec<Given<'_>>, WordsErr>
+fn read_given(alloc: Global, words: &[String]) -> Result<Vec<OptionGiven<'_>>, WordsErr>
     ensures given { IfOk result (λ v. given_from (map string_bytes words.now) None ≡ Some (map given_view v.items)) }
     ensures usage { result ≡ Err WordsErr.Usage → given_from (map string_bytes words.now) None ≡ None }
 {
@@ -95,8 +95,8 @@ fn read_given(alloc: Global, words: &[String]) -> Result<Vec<Given<'_>>, WordsEr
     let mut pending = None;
     for word in words {
         let one = match (pending, piece_of(word.as_str())) {
-            (option, Piece::Plain(value)) => Given { option, value },
-            (None, Piece::Whole(name, value)) => Given {
+            (option, Piece::Plain(value)) => OptionGiven { option, value },
+            (None, Piece::Whole(name, value)) => OptionGiven {
                 option: Some(name),
                 value,
             },
@@ -133,7 +133,7 @@ fn is_known_option(option: Option<&str>) -> bool
     }
 }
 
-fn all_known(given: &[Given<'_>]) -> bool
+fn all_known(given: &[OptionGiven<'_>]) -> bool
     ensures { result ≡ list_all (λ g. is_known_option g.0) (map given_view given.now) }
 {
     for one in given {
@@ -155,7 +155,7 @@ fn same_option(a: Option<&str>, b: Option<&str>) -> bool
 }
 
 /// The value that an option is given, if any. The answer is None where it is given twice.
-fn value_of<'a>(given: &[Given<'a>], option: Option<&str>) -> Option<Option<&'a str>>
+fn value_of<'a>(given: &[OptionGiven<'a>], option: Option<&str>) -> Option<Option<&'a str>>
     ensures { option_map text_view result ≡ lone (option_values (text_view option.entry) (map given_view given.now)) }
 {
     let mut found = None;
@@ -237,7 +237,7 @@ fn rule_of(policy: Option<&str>, picks: Option<&str>) -> Option<Rule>
 }
 
 /// What is asked for, where each option is given at most once and with a value of its own.
-fn wanted_of<'a>(given: &[Given<'a>]) -> Option<Wanted<'a>>
+fn wanted_of<'a>(given: &[OptionGiven<'a>]) -> Option<RunWords<'a>>
     ensures { option_map wanted_view result ≡ args_of (map given_view given.now) }
 {
     let net = value_of(given, None)??;
@@ -251,7 +251,7 @@ fn wanted_of<'a>(given: &[Given<'a>]) -> Option<Wanted<'a>>
     let train = number_or(16, 1, 4096, train)?;
     let frames = number_or(256, 2, 16_384, frames)?;
     let rule = rule_of(policy, picks)?;
-    Some(Wanted {
+    Some(RunWords {
         net,
         capacities,
         seed,
@@ -271,7 +271,7 @@ fn copied(alloc: Global, name: Option<&str>) -> Result<Option<Name>, AllocError>
     }
 }
 
-fn args_from(alloc: Global, wanted: Wanted<'_>) -> Result<RunArgs, AllocError>
+fn args_from(alloc: Global, wanted: RunWords<'_>) -> Result<RunArgs, AllocError>
     ensures { IfOk result (λ a. a ≡ wanted_view wanted.entry) }
 {
     Ok(RunArgs {
@@ -322,7 +322,7 @@ fn gen_args(words: &[String]) -> Option<Command>
 }
 
 /// Whether a word may name a file: it isn't empty and doesn't begin with a dash.
-fn may_name(word: &str) -> bool
+pub fn may_name(word: &str) -> bool
     ensures { result ≡ may_name word.now }
 {
     match word.as_bytes() {

@@ -2,3 +2,4 @@ pub mod Bounds
 pub mod Sharing
 pub mod Falls
 pub mod Plannable
+pub mod FirstLemmas

@@ -40,3 +40,17 @@ pub fn network_points(alloc: Global, n: &Network) -> Result<Vec<DropPoint>, Plac
     let windows = windows_of(alloc, n)?;
     drop_points(alloc, &n.wires, &windows, n.batch)
 }
+
+/// The drop points of a network that keeps their limits, so only want of memory is left to refuse them.
+pub fn points_in(alloc: Global, n: &Network) -> Result<Vec<DropPoint>, AllocError>
+    requires sound { IsSound n.now }
+    requires limits { KeepsDropLimits n.now }
+    ensures { IfOk result (λ v. v.items ≡ points_of n.now) }
+{
+    match network_points(alloc, n) {
+        Ok(points) => Ok(points),
+        Err(PlaceErr::Memory) => Err(AllocError),
+        Err(PlaceErr::LongBatch { .. }) => unreachable!(),
+        Err(PlaceErr::WideExtent { .. }) => unreachable!(),
+    }
+}
