@@ -79,7 +79,7 @@ def selectivity(box):
 
 def rates_of(net, counts):
     """Returns the rate of each stream."""
-    rates = {source["name"]: 1_000_000 * count for source, count in zip(net.sources, counts)}
+    rates = {source["name"]: min(MOST_RATE, 1_000_000 * count) for source, count in zip(net.sources, counts)}
 
     def rate(stream):
         if stream not in rates:

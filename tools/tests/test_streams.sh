@@ -39,6 +39,14 @@ touch taken/aurora.spill
 said=$(cd taken && "$program" run --frames 2 net.toml 2>&1 >/dev/null)
 [ "$said" = "aurora: spill disk failed" ] || fail "this run doesn't spill, so it shows nothing: $said"
 
+# What else has that name is left as it is, and the next one is taken.
+mkdir mine
+cp net.toml s.csv mine
+echo mine >mine/aurora.spill
+(cd mine && "$program" run --frames 2 net.toml >text 2>told) || fail "the run doesn't end well beside what has its file's name"
+[ "$(cat mine/aurora.spill)" = mine ] || fail "what had the name of its file is another"
+[ "$(find mine -name 'aurora.spill*' | wc -l)" = 1 ] || fail "a file is left beside it"
+
 "$program" run --frames 2 net.toml >text 2>told || fail "the run doesn't end well with its streams open"
 [ "$(grep -c ^o, text)" = 3000 ] || fail "the run has other lines"
 "$program" run --frames 2 net.toml >&- 2>told

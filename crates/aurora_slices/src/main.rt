@@ -8,15 +8,15 @@
 use sq_outside::write_all;
 use sq_slicer::run_slices;
 use sq_system::{OpenFolder, Out, take_closed_streams, words_after_name};
-use sq_teller::Status;
+use sq_teller::Ending;
 use std::process::ExitCode;
 
 /// Does what the words ask for, and says how it ended.
-fn run(rt: &HostRuntime) -> Status {
+fn run(rt: &HostRuntime) -> Ending {
     let mut err = Out::new(rt.stderr());
     let Ok(words) = words_after_name(rt) else {
         let _ = write_all(&mut err, b"aurora_slices: out of memory\n");
-        return Status::Memory;
+        return Ending::Memory;
     };
     let mut folder = OpenFolder::new(rt);
     let mut out = Out::new(rt.stdout());

@@ -8,11 +8,12 @@ use Rattle.sq_aggfn.specs.declared.WindowSpec.{WindowSpec}
 use Rattle.sq_aggfn.specs.Windows.{start_of, is_start}
 use Rattle.sq_aggfn.specs.Groups.{group_of}
 use Rattle.sq_aggfn.specs.KeyedStates.{added}
-use Rattle.sq_pane.specs.Panes.{shift_of, pane_of, window_from, total, AllAreMade, key_cmp, Key}
+use Rattle.sq_pane.specs.Panes.{shift_of, pane_of, window_from, key_cmp, Key}
+use Rattle.sq_rows.specs.Rows.{total, AllAreMade}
 use Rattle.sq_item.specs.declared.Mark.{Mark}
 use Rattle.sq_item.specs.SoundItems.{IsMark}
 use Rattle.sq_item.specs.Things.{Thing, Sign}
-use Rattle.sq_oper.specs.declared.tally.Moment.{Moment}
+use Rattle.sq_oper.specs.declared.tally.Position.{Position}
 use Rattle.sq_oper.specs.Order.{may_come, time_of}
 use Rattle.sq_oper.specs.Entries.{Entry}
 use Rattle.sq_oper.specs.Streams.{things}
@@ -154,7 +155,7 @@ abbrev pub FitsResult : ℕ → List Value → Type 0
 FitsResult width g = (1 ≤ length g + width) × (length g + width ≤ 16)
 
 -- what is held by panes: none begins after this time, nor at or after a mark that may still come
-pub record HoldsPanes {M : Type 0} (made : M → Type 0) (number : M → ℕ) (w : WindowSpec) (pane width taken : ℕ) (place : Moment) (es : List (Key × M)) : Type 0 where
+pub record HoldsPanes {M : Type 0} (made : M → Type 0) (number : M → ℕ) (w : WindowSpec) (pane width taken : ℕ) (place : Position) (es : List (Key × M)) : Type 0 where
   pub begun : AllByRecursion (λ e. e.0.0 * pane ≤ time_of place + shift_of w pane) es
   pub fit : AllByRecursion (λ e. FitsResult width e.0.1) es
   pub sound : AllAreMade made es

@@ -6,7 +6,7 @@ ghost use Rattle.std.specs.Int.{IsGcd};
 ghost use Rattle.sq_item.specs.Things.{Thing};
 ghost use Rattle.sq_aggfn.specs.Windows.{IsWindow};
 ghost use Rattle.sq_lists.specs.Windows.{aggregate_of};
-ghost use Rattle.sq_oper.specs.declared.tally.Moment.{Moment};
+ghost use Rattle.sq_oper.specs.declared.tally.Position.{Position};
 ghost use Rattle.sq_oper.specs.Entries.{Entry};
 ghost use Rattle.sq_oper.specs.Order.{IsFuture, time_of};
 ghost use Rattle.sq_oper.specs.Streams.{things, tuples_of, at_zero};
@@ -23,7 +23,7 @@ use crate::waiting::Waiting;
 use crate::windows::{forget_ended, next_end};
 use sq_aggfn::{Fold, WindowSpec};
 use sq_item::Item;
-use sq_oper::{Decision, Moment, Operator, Outlet, Tally};
+use sq_oper::{Decision, Operator, Outlet, Position, Tally};
 use sq_outside::Steps;
 use sq_pane::Panes;
 use sq_road::Levels;
@@ -60,10 +60,10 @@ impl<F: Fold + Drop> AggregateBox<F> {
     ) -> AggregateBox<F>
         requires { IsWindow window }
         ensures list { (table : ℕ → ℕ → ℕ) (future : List Entry) (q : ℕ) → marked ≡ false
-            → IsFuture (⟦<AggregateBox<F> as Operator>⟧.takes_marks result) (⟦<AggregateBox<F> as Operator>⟧.fits result) Moment.Start future
+            → IsFuture (⟦<AggregateBox<F> as Operator>⟧.takes_marks result) (⟦<AggregateBox<F> as Operator>⟧.fits result) Position.Start future
             → ⟦<AggregateBox<F> as Operator>⟧.rest result table future q ≡ at_zero q (things (aggregate_of (F.table fold) group.items window (tuples_of future))) }
         ensures marked { (table : ℕ → ℕ → ℕ) (future : List Entry) (q : ℕ) → marked ≡ true
-            → IsFuture (⟦<AggregateBox<F> as Operator>⟧.takes_marks result) (⟦<AggregateBox<F> as Operator>⟧.fits result) Moment.Start future
+            → IsFuture (⟦<AggregateBox<F> as Operator>⟧.takes_marks result) (⟦<AggregateBox<F> as Operator>⟧.fits result) Position.Start future
             → ⟦<AggregateBox<F> as Operator>⟧.rest result table future q ≡ at_zero q (spread_of (aggregate_tagged (F.table fold) group.items window (tagged_of future))) }
         ensures none_lost { (future : List Entry) → ⟦<AggregateBox<F> as Operator>⟧.lost result future ≡ 0 }
         ensures fits { (port : ℕ) (fields : List Value) → ⟦<AggregateBox<F> as Operator>⟧.fits result port fields ≡ ((port == 0) && makes_result (length group.items) (F.width fold)) }
@@ -71,7 +71,7 @@ impl<F: Fold + Drop> AggregateBox<F> {
         ensures holds { (time : ℕ) (things : List Thing) → ⟦<AggregateBox<F> as Operator>⟧.may_hold result time things → OnlyOpen window.size time things }
         ensures decides { (table : ℕ → ℕ → ℕ) (future : List Entry) → ⟦<AggregateBox<F> as Operator>⟧.decides result table future ≡ [] }
         ensures takes_marks { (port : ℕ) → ⟦<AggregateBox<F> as Operator>⟧.takes_marks result port ≡ takes_marks_at marked port }
-        ensures start { (⟦<AggregateBox<F> as Operator>⟧.place result ≡ Moment.Start) × (⟦<AggregateBox<F> as Operator>⟧.taken result ≡ 0) }
+        ensures start { (⟦<AggregateBox<F> as Operator>⟧.place result ≡ Position.Start) × (⟦<AggregateBox<F> as Operator>⟧.taken result ≡ 0) }
         ensures valid { ⟦<AggregateBox<F> as Operator>⟧.valid result × IsTrue (⟦<AggregateBox<F> as Operator>⟧.running result) }
     {
         AggregateBox {
@@ -156,7 +156,7 @@ impl<F: Fold + Drop> Operator for AggregateBox<F> {
         self.time = time;
         self.waiting
             .push(self.panes.window.size - 1, time, &item.mark)?;
-        add_body(&self.group, &mut self.panes, time, item.body)?;
+        add_body(&self.group, &mut self.panes, time, item.body, out)?;
         count_step(fed, steps);
         Ok(())
     }

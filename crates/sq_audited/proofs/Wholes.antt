@@ -21,7 +21,7 @@ use Rattle.sq_oper.specs.declared.outs.Decision.{Decision}
 use Rattle.sq_start.specs.Nets.{decision_on, drop_decisions}
 use Rattle.sq_model.specs.Shedding as model
 use Rattle.sq_lines.specs.RunLines.{boxes_from, end_lines, fed_line, is_sorter, late_lines}
-use Rattle.sq_verdict.specs.Faults.{has_first}
+use Rattle.sq_wanted.specs.Showing.{has_first}
 use Rattle.sq_verdict.specs.WholeTexts as whole
 use Rattle.sq_verdict.specs.WholeTexts.{AreEnds, IsWhole}
 use Rattle.sq_audit.specs.Laws.{answer_lines, due_for, record_lines}

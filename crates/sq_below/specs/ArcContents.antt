@@ -21,7 +21,7 @@ use Rattle.sq_net.specs.declared.Node.{Node}
 use Rattle.sq_net.specs.declared.Body.{Body}
 use Rattle.sq_net.specs.declared.Body.TheVariants as body
 use Rattle.sq_net.specs.Streams.{columns_of_stream}
-use Rattle.sq_oper.specs.declared.tally.Moment.TheVariants.{Start}
+use Rattle.sq_oper.specs.declared.tally.Position.TheVariants.{Start}
 use Rattle.sq_oper.specs.Entries.{Entry}
 use Rattle.sq_oper.specs.Order.{merge, unmarked, IsFuture}
 use Rattle.sq_oper.specs.Streams.{tuple_in, tuples_at, tuples_of, things, at_zero, at_ports_below}

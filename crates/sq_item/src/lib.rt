@@ -1,7 +1,7 @@
-//! Items: what stands on an arc of a network, a mark, a tuple, or a mark that rides on a tuple.
+//! Items: what stands on an arc of a network, a mark of a batch, a tuple, or a mark that rides on a tuple.
 //!
 //! The contract promises that a copy is the item again, and what a program may make: a tick with a mark, a tuple of 1 to
-//! 16 values or both, and a bound that stays small (`specs/Sound`). What items stand for, the mark and then the tuple, is
+//! 16 values or both, and a bound that stays small (`specs/SoundItems`). What items stand for, the mark and then the tuple, is
 //! defined in `specs/Things` for the layers above. Below stand the values alone. Marks are after window-aware load
 //! shedding (N. Tatbul and S. Zdonik, VLDB 2006); their rules are this project's own.
 #![tactic(auto)]

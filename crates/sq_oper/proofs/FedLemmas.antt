@@ -6,9 +6,9 @@ use Rattle.sq_item.specs.declared.Mark.{Mark}
 use Rattle.sq_item.specs.declared.Item.{Item}
 use Rattle.sq_item.specs.SoundItems.{IsSoundItem}
 use Rattle.sq_item.specs.Things.{Sign, Body, mark_part, body_part}
-use Rattle.sq_oper.specs.declared.tally.Moment.{Moment}
+use Rattle.sq_oper.specs.declared.tally.Position.{Position}
 use Rattle.sq_oper.specs.Entries.{Entry, at_port, entries}
-use Rattle.sq_oper.specs.Order.{may_come, time_of, moment_after, after_all, unmarked, IsFuture}
+use Rattle.sq_oper.specs.Order.{may_come, time_of, position_after, after_all, unmarked, IsFuture}
 use Rattle.sq_oper.specs.Streams.{tuples_of}
 use Rattle.sq_oper.proofs.StreamLemmas.{time-before, time-after}
 
@@ -49,7 +49,7 @@ pub tuples-unfed : (port : ℕ) (item : Item) (future : List Entry) → item.bod
 tuples-unfed port item future is = read-unfed tuples_of (λ port time m es. refl) port item future is
 
 -- an item with a tuple that may come has no earlier time than the last item
-pub time-before-item : (marks : ℕ → Bool) (fits : ℕ → List Value → Bool) (place : Moment) (port : ℕ) (item : Item) (fields : List Value) → item.body ≡ Some fields
+pub time-before-item : (marks : ℕ → Bool) (fits : ℕ → List Value → Bool) (place : Position) (port : ℕ) (item : Item) (fields : List Value) → item.body ≡ Some fields
     → IsFuture marks fits place (entries port item) → time_of place ≤ item.time
 time-before-item marks fits place port item fields is may = by item.mark item.body is may
   where
@@ -58,7 +58,7 @@ time-before-item marks fits place port item fields is may = by item.mark item.bo
     by m (Some f) e h = time-before place port item.time m f h.in_order
 
 -- an operator that was fed an item with a tuple stands at its time
-pub time-after-item : (place : Moment) (port : ℕ) (item : Item) (fields : List Value) → item.body ≡ Some fields → time_of (after_all place (entries port item)) ≡ item.time
+pub time-after-item : (place : Position) (port : ℕ) (item : Item) (fields : List Value) → item.body ≡ Some fields → time_of (after_all place (entries port item)) ≡ item.time
 time-after-item place port item fields is = by item.mark item.body is
   where
     by : (m : Option Mark) (b : Option (List Value)) → b ≡ Some fields → time_of (after_all place (at_port port (mark_part item.time m ++ body_part item.time b))) ≡ item.time
@@ -66,7 +66,7 @@ time-after-item place port item fields is = by item.mark item.body is
     by m (Some f) e = time-after place port item.time m f
 
 -- no item with a mark may come where no port takes marks
-pub unmarked-item : (fits : ℕ → List Value → Bool) (place : Moment) (port : ℕ) (item : Item) (future : List Entry)
+pub unmarked-item : (fits : ℕ → List Value → Bool) (place : Position) (port : ℕ) (item : Item) (future : List Entry)
     → IsFuture unmarked fits place (entries port item ++ future) → item.mark ≡ None
 unmarked-item fits place port item future may = by item.mark refl may
   where
@@ -75,7 +75,7 @@ unmarked-item fits place port item future may = by item.mark refl may
     by (Some m) e h = absurd (true≢false (sym h.fitting.0))
 
 -- nor an item without a tuple
-pub no_body : (fits : ℕ → List Value → Bool) (place : Moment) (port : ℕ) (item : Item) → item.body ≡ None → IsSoundItem item → IsFuture unmarked fits place (entries port item) → ⊥
+pub no_body : (fits : ℕ → List Value → Bool) (place : Position) (port : ℕ) (item : Item) → item.body ≡ None → IsSoundItem item → IsFuture unmarked fits place (entries port item) → ⊥
 no_body fits place port item is sound may =
     let no_mark = unmarked-item fits place port item [] (rw (append-nil (entries port item)) may) in
     neither item.mark item.body no_mark is sound.some
@@ -90,12 +90,12 @@ abbrev pub item_of : ℕ → Value → Item
 item_of time v = record { time = time; mark = None; body = Some (v ∷ []) }
 
 -- it may be fed where its place and its port say so
-pub may-be-fed : (marks : ℕ → Bool) (fits : ℕ → List Value → Bool) (place : Moment) (port time : ℕ) (v : Value) (i : Item) → i ≡ item_of time v
+pub may-be-fed : (marks : ℕ → Bool) (fits : ℕ → List Value → Bool) (place : Position) (port time : ℕ) (v : Value) (i : Item) → i ≡ item_of time v
     → may_come place (tuple_entry port time (v ∷ [])) ≡ true → fits port (v ∷ []) ≡ true
     → IsFuture marks fits place (entries port i)
 may-be-fed marks fits place port time v i is may fit = rw is (record { in_order = (may, tt); fitting = (fit, tt) })
 
 -- the place after it was fed
-pub place-after-tuple : (was p is : Moment) (port time : ℕ) (v : Value) (i : Item) → i ≡ item_of time v → is ≡ after_all was (entries port i) → was ≡ p
-    → is ≡ moment_after p (tuple_entry port time (v ∷ []))
+pub place-after-tuple : (was p is : Position) (port time : ℕ) (v : Value) (i : Item) → i ≡ item_of time v → is ≡ after_all was (entries port i) → was ≡ p
+    → is ≡ position_after p (tuple_entry port time (v ∷ []))
 place-after-tuple was p is port time v i e moves same = rw (moves, same, e) refl

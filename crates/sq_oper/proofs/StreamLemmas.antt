@@ -6,8 +6,8 @@ use Rattle.sq_value.specs.declared.Value.{Value}
 use Rattle.sq_value.specs.declared.Tuple.{Tuple}
 use Rattle.sq_item.specs.declared.Mark.{Mark}
 use Rattle.sq_item.specs.Things.{Thing, Sign, Body, mark_part, body_part}
-use Rattle.sq_oper.specs.declared.tally.Moment.{Moment}
-use Rattle.sq_oper.specs.declared.tally.Moment.TheVariants.{Start, At}
+use Rattle.sq_oper.specs.declared.tally.Position.{Position}
+use Rattle.sq_oper.specs.declared.tally.Position.TheVariants.{Start, At}
 use Rattle.sq_oper.specs.Entries.{Entry, at_port}
 use Rattle.sq_oper.specs.Order.{may_come, time_of, after_all, InOrder}
 use Rattle.sq_oper.specs.Outflow.{ThingsUpTo}
@@ -34,7 +34,7 @@ pub UpTo-at_zero : (t q : ℕ) (xs : List Thing) → ThingsUpTo t xs → ThingsU
 UpTo-at_zero t q xs h = All-at_zero (λ thing. thing.time ≤ t) q xs h
 
 -- an operator that was fed a tuple stands at its time
-pub time-after : (place : Moment) (port time : ℕ) (mark : Option Mark) (fields : List Value)
+pub time-after : (place : Position) (port time : ℕ) (mark : Option Mark) (fields : List Value)
     → time_of (after_all place (at_port port (mark_part time mark ++ body_part time (Some fields)))) ≡ time
 time-after place port time None fields = refl
 time-after place port time (Some mark) fields = refl
@@ -45,11 +45,11 @@ not-before t u false true e e' rest h = grind (arith, tests)
 not-before t u false false e e' rest h = cc
 
 -- an entry that may come has no earlier time than the last one
-pub may-come-time : (place : Moment) (e : Entry) → IsTrue (may_come place e) → time_of place ≤ e.thing.time
+pub may-come-time : (place : Position) (e : Entry) → IsTrue (may_come place e) → time_of place ≤ e.thing.time
 may-come-time Start e h = zero-le
 may-come-time (At t p m) e h = not-before t e.thing.time (nat_lt t e.thing.time) (t == e.thing.time) refl refl _ h
 
-pub time-before : (place : Moment) (port time : ℕ) (mark : Option Mark) (fields : List Value)
+pub time-before : (place : Position) (port time : ℕ) (mark : Option Mark) (fields : List Value)
     → InOrder place (at_port port (mark_part time mark ++ body_part time (Some fields))) → time_of place ≤ time
 time-before place port time None fields h = may-come-time place (record { port = port; thing = record { time = time; content = Body fields } }) h.0
 time-before place port time (Some mark) fields h = may-come-time place (record { port = port; thing = record { time = time; content = Sign mark } }) h.0

@@ -1,7 +1,7 @@
 use Rattle.std.specs.Prelude.{ℕ, ◌+◌, ◌==◌, nat_lt, nat_le, Bool, true, false, ◌&&◌, ◌||◌, not, List, [], ◌∷◌, IsTrue, if◌then◌else◌}
 use Rattle.sq_value.specs.declared.Value.{Value}
-use Rattle.sq_oper.specs.declared.tally.Moment.{Moment}
-use Rattle.sq_oper.specs.declared.tally.Moment.TheVariants.{Start, At}
+use Rattle.sq_oper.specs.declared.tally.Position.{Position}
+use Rattle.sq_oper.specs.declared.tally.Position.TheVariants.{Start, At}
 use Rattle.sq_item.specs.Things.{Content, Sign, Body, Thing, is_body}
 use Rattle.sq_oper.specs.Entries.{Entry, at_port}
 
@@ -29,7 +29,7 @@ merge lists = merge_from 0 lists
 
 -- the entry may come next where the last one stands at this place: it stands after it, a mark stands before the
 -- tuples of its port and time and comes once there, and the first entry of a time that has marks is a mark
-abbrev pub may_come : Moment → Entry → Bool
+abbrev pub may_come : Position → Entry → Bool
 may_come Start entry = true
 may_come (At time port marked) entry =
     nat_lt time entry.thing.time
@@ -37,27 +37,27 @@ may_come (At time port marked) entry =
     && ((is_body entry.thing.content && nat_le port entry.port) || (not (is_body entry.thing.content) && marked && nat_lt port entry.port)))
 
 -- a mark of this time came already
-abbrev pub marked_at : Moment → ℕ → Bool
+abbrev pub marked_at : Position → ℕ → Bool
 marked_at Start time = false
 marked_at (At last port marked) time = last == time && marked
 
 -- the time of the last item, 0 before the first
-abbrev pub time_of : Moment → ℕ
+abbrev pub time_of : Position → ℕ
 time_of Start = 0
 time_of (At time port marked) = time
 
 -- the place after an entry
-abbrev pub moment_after : Moment → Entry → Moment
-moment_after place entry = At entry.thing.time entry.port (not (is_body entry.thing.content) || marked_at place entry.thing.time)
+abbrev pub position_after : Position → Entry → Position
+position_after place entry = At entry.thing.time entry.port (not (is_body entry.thing.content) || marked_at place entry.thing.time)
 
-abbrev pub after_all : Moment → List Entry → Moment
+abbrev pub after_all : Position → List Entry → Position
 after_all place [] = place
-after_all place (entry ∷ entries) = after_all (moment_after place entry) entries
+after_all place (entry ∷ entries) = after_all (position_after place entry) entries
 
 -- each entry may come after the one before it
-abbrev pub InOrder : Moment → List Entry → Type 0
+abbrev pub InOrder : Position → List Entry → Type 0
 InOrder place [] = Unit {0}
-InOrder place (entry ∷ entries) = IsTrue (may_come place entry) × InOrder (moment_after place entry) entries
+InOrder place (entry ∷ entries) = IsTrue (may_come place entry) × InOrder (position_after place entry) entries
 
 -- each tuple fits its port, and marks come only at ports that take them
 abbrev pub content_fits : (ℕ → Bool) → (ℕ → List Value → Bool) → ℕ → Content → Bool
@@ -73,6 +73,6 @@ abbrev pub unmarked : ℕ → Bool
 unmarked port = false
 
 -- a tagged list that may still come to a state which stands at this place
-pub record IsFuture (marks : ℕ → Bool) (fits : ℕ → List Value → Bool) (place : Moment) (future : List Entry) : Type 0 where
+pub record IsFuture (marks : ℕ → Bool) (fits : ℕ → List Value → Bool) (place : Position) (future : List Entry) : Type 0 where
   pub in_order : InOrder place future
   pub fitting : AllFit marks fits future

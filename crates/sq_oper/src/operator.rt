@@ -7,12 +7,12 @@ ghost use Rattle.sq_item.specs.SoundItems.{IsSoundItem};
 ghost use Rattle.sq_item.specs.Things.{Thing};
 ghost use Rattle.sq_road.specs.Levels.{AgreesWith};
 ghost use Rattle.sq_oper.specs.declared.outs.Decision.{Decision};
-ghost use Rattle.sq_oper.specs.declared.tally.Moment.{Moment};
+ghost use Rattle.sq_oper.specs.declared.tally.Position.{Position};
 ghost use Rattle.sq_oper.specs.Entries.{Entry, entries};
 ghost use Rattle.sq_oper.specs.Outflow.{given, ItemsSound, ThingsUpTo};
 ghost use Rattle.sq_oper.specs.Order.{IsFuture, after_all};
 
-use crate::{Decision, Moment, Outlet};
+use crate::{Decision, Outlet, Position};
 use sq_item::Item;
 use sq_outside::Steps;
 use sq_road::Levels;
@@ -39,7 +39,7 @@ pub trait Operator {
     ghost taken: { Self → ℕ };
 
     /// Where the last item that was fed stands.
-    ghost place: { Self → Moment };
+    ghost place: { Self → Position };
 
     /// Items with marks may come at this port.
     ghost takes_marks: { Self → ℕ → Bool };

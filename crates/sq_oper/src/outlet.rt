@@ -10,6 +10,7 @@ ghost use Rattle.sq_oper.specs.Outflow.{given, ItemsSound};
 
 use crate::{Decision, Outs};
 use sq_item::Item;
+use sq_value::Fields;
 use std::alloc::{AllocError, Global};
 
 /// Takes what an operator gives, one item after another, so that no list of it has to stand anywhere.
@@ -44,6 +45,10 @@ pub trait Outlet {
         ensures stays_ready { OnOk result (ready self.new) }
         ensures came { (start : Self) → came start self.old → came start self.new };
 
+    /// Takes values that are done with: their vector may be used again.
+    fn let_go(&mut self, fields: Fields)
+        ensures { self.new ≡ self.old };
+
     /// A batch is dropped.
     fn decide(&mut self, decision: Decision) -> Result<(), AllocError>
         requires is_ready { ready self.old }
@@ -74,6 +79,8 @@ impl Outlet for Outs {
         self.items.push_reserved((port, item));
         Ok(())
     }
+
+    fn let_go(&mut self, _fields: Fields) {}
 
     #[tactic(auto, using(crate::proofs::GivenLemmas::given_lemmas))]
     fn decide(&mut self, decision: Decision) -> Result<(), AllocError> {

@@ -6,21 +6,21 @@ ghost use Rattle.sq_oper.specs.Order.{after_all, marked_at};
 
 use sq_item::Item;
 
-/// The place of the last item that was fed, and whether a mark of its time was.
+/// How far the merge of an operator's inputs has come: the time and the port of the last item, and whether a mark of its time was fed.
 #[derive(Clone, Copy, PartialEq, Eq, Drop)]
-pub enum Moment {
+pub enum Position {
     Start,
     At { time: u64, port: u32, marked: bool },
 }
 
-impl Moment {
+impl Position {
     /// Whether a mark of this time was fed.
     pub fn is_marked_at(self, time: u64) -> bool
         ensures { result ≡ marked_at self time }
     {
         match self {
-            Moment::Start => false,
-            Moment::At {
+            Position::Start => false,
+            Position::At {
                 time: last,
                 port: _,
                 marked,
@@ -29,10 +29,10 @@ impl Moment {
     }
 }
 
-/// The place of the last item, how many tuples were fed, and whether the operator isn't finished.
+/// The position of the last item, how many tuples were fed, and whether the operator isn't finished.
 #[derive(Drop)]
 pub struct Tally {
-    pub place: Moment,
+    pub place: Position,
     pub taken: u64,
     pub running: bool,
 }
@@ -40,10 +40,10 @@ pub struct Tally {
 impl Tally {
     /// Nothing was fed.
     pub fn new() -> Tally
-        ensures { result ≡ record { place = Moment.Start; taken = 0; running = true } }
+        ensures { result ≡ record { place = Position.Start; taken = 0; running = true } }
     {
         Tally {
-            place: Moment::Start,
+            place: Position::Start,
             taken: 0,
             running: true,
         }
@@ -62,18 +62,18 @@ impl Tally {
             (false, false) => {}
             (false, true) => {
                 let marked = self.place.is_marked_at(time);
-                self.place = Moment::At { time, port, marked };
+                self.place = Position::At { time, port, marked };
                 self.taken += 1;
             }
             (true, false) => {
-                self.place = Moment::At {
+                self.place = Position::At {
                     time,
                     port,
                     marked: true,
                 };
             }
             (true, true) => {
-                self.place = Moment::At {
+                self.place = Position::At {
                     time,
                     port,
                     marked: true,

@@ -3,12 +3,12 @@ use Rattle.std.specs.Prelude.{ℕ, ◌+◌, ◌-◌, ◌||◌, if◌then◌else�
 use Rattle.sq_graph.specs.declared.Wiring.{Wiring}
 use Rattle.sq_graph.specs.Wires.{input_arcs_of}
 use Rattle.sq_place.specs.declared.DropAt.{DropAt}
-use Rattle.sq_place.specs.declared.seen.Seen.{Seen}
-use Rattle.sq_place.specs.Numbers.{lcm_of_all}
+use Rattle.sq_seen.specs.declared.seen.Seen.{Seen}
+use Rattle.sq_seen.specs.Numbers.{lcm_of_all}
 use Rattle.sq_place.specs.Places.{Windows, window_at, own_arcs, box_before, dist, last_within, bare_within}
 use Rattle.sq_place.specs.Points.{least, advances_of, margins_of}
 use Rattle.sq_words.specs.Lists.{contains_number}
-use Rattle.sq_place.specs.Reaches.{capped, nothing, itself, join_all, past, in_table}
+use Rattle.sq_seen.specs.Reaches.{capped, nothing, itself, join_all, past, in_table}
 
 module _ (w : Wiring) (ws : Windows) (place : DropAt) where
   abbrev pub seen_of : ℕ → Seen

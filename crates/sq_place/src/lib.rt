@@ -2,17 +2,15 @@
 //!
 //! The contracts promise exactly the drop points of the definition in `specs/`, with what is below each, its distances and
 //! its numbers, or the first that breaks a rule; and that no arc, box or output is below two. Each place costs one walk
-//! along the boxes and their arcs. Below stand the wiring of `sq_graph` and the windows of `sq_aggfn`. Dropping whole windows
+//! along the boxes and their arcs. Below stand the wiring of `sq_graph` and the numbers of `sq_seen`. Dropping whole windows
 //! early is after window-aware load shedding (N. Tatbul and S. Zdonik, VLDB 2006); the rules are this project's own.
 #![tactic(auto)]
 
 mod drops;
 mod laws;
 mod layout;
-mod numbers;
 mod points;
 mod regions;
-mod seen;
 
 pub use drops::drop_points;
 pub use laws::drops_are_apart;

@@ -6,7 +6,7 @@ ghost use Rattle.sq_words.specs.Lists.{IsPrefixOf};
 ghost use Rattle.sq_item.specs.SoundItems.{IsMark, IsBody};
 ghost use Rattle.sq_item.specs.Things.{Thing};
 ghost use Rattle.sq_lists.specs.Boxes.{filter_list_of, port_taken};
-ghost use Rattle.sq_oper.specs.declared.tally.Moment.{Moment};
+ghost use Rattle.sq_oper.specs.declared.tally.Position.{Position};
 ghost use Rattle.sq_oper.specs.Entries.{Entry};
 ghost use Rattle.sq_oper.specs.Outflow.{given, ItemsSound};
 ghost use Rattle.sq_oper.specs.Order.{IsFuture};
@@ -23,7 +23,7 @@ use crate::ports::Ports;
 use sq_expr::{Typed, holds};
 use sq_item::{Body, Item, Mark, Sign};
 use sq_lists::port_of_tuple;
-use sq_oper::{Decision, Moment, Operator, Outlet, Tally};
+use sq_oper::{Decision, Operator, Outlet, Position, Tally};
 use sq_outside::Steps;
 use sq_road::Levels;
 use sq_value::{Tuple, Value};
@@ -46,7 +46,7 @@ impl FilterBox {
         ensures list { (table : ℕ → ℕ → ℕ) (future : List Entry) (q : ℕ) → HasNoMarks future
             → ⟦<FilterBox as Operator>⟧.rest result table future q ≡ things (filter_list_of (trees preds.items) q (tuples_of future)) }
         ensures marked { (table : ℕ → ℕ → ℕ) (future : List Entry) (q : ℕ)
-            → IsFuture (⟦<FilterBox as Operator>⟧.takes_marks result) (⟦<FilterBox as Operator>⟧.fits result) Moment.Start future
+            → IsFuture (⟦<FilterBox as Operator>⟧.takes_marks result) (⟦<FilterBox as Operator>⟧.fits result) Position.Start future
             → ⟦<FilterBox as Operator>⟧.rest result table future q ≡ at_ports_below (length preds.items + 1) q (spread_of (filter_tagged (trees preds.items) q (tagged_of future))) }
         ensures fits { (port : ℕ) (fields : List Value) → ⟦<FilterBox as Operator>⟧.fits result port fields ≡ true }
         ensures takes_marks { (port : ℕ) → ⟦<FilterBox as Operator>⟧.takes_marks result port ≡ first_port port }
@@ -54,7 +54,7 @@ impl FilterBox {
         ensures holds { (time : ℕ) (things : List Thing) → ⟦<FilterBox as Operator>⟧.may_hold result time things → things ≡ [] }
         ensures decides { (table : ℕ → ℕ → ℕ) (future : List Entry) → ⟦<FilterBox as Operator>⟧.decides result table future ≡ [] }
         ensures none_lost { (future : List Entry) → ⟦<FilterBox as Operator>⟧.lost result future ≡ 0 }
-        ensures start { (⟦<FilterBox as Operator>⟧.place result ≡ Moment.Start) × (⟦<FilterBox as Operator>⟧.taken result ≡ 0) }
+        ensures start { (⟦<FilterBox as Operator>⟧.place result ≡ Position.Start) × (⟦<FilterBox as Operator>⟧.taken result ≡ 0) }
         ensures valid { ⟦<FilterBox as Operator>⟧.valid result × IsTrue (⟦<FilterBox as Operator>⟧.running result) }
     {
         let ports = Ports::of(*preds.allocator(), &preds);

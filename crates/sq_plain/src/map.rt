@@ -6,7 +6,7 @@ ghost use Rattle.sq_words.specs.Lists.{IsPrefixOf};
 ghost use Rattle.sq_item.specs.SoundItems.{IsMark, IsBody};
 ghost use Rattle.sq_item.specs.Things.{Thing};
 ghost use Rattle.sq_lists.specs.Boxes.{map_list_of};
-ghost use Rattle.sq_oper.specs.declared.tally.Moment.{Moment};
+ghost use Rattle.sq_oper.specs.declared.tally.Position.{Position};
 ghost use Rattle.sq_oper.specs.Entries.{Entry};
 ghost use Rattle.sq_oper.specs.Outflow.{given, ItemsSound};
 ghost use Rattle.sq_oper.specs.Streams.{IsSoundTuple, things, tuples_of, at_zero, first_port};
@@ -21,7 +21,7 @@ use crate::give::{give_mark, give_tuple};
 use sq_expr::Typed;
 use sq_item::{Body, Item, Sign};
 use sq_lists::map_tuple;
-use sq_oper::{Decision, Moment, Operator, Outlet, Tally};
+use sq_oper::{Decision, Operator, Outlet, Position, Tally};
 use sq_outside::Steps;
 use sq_road::Levels;
 use sq_value::{Tuple, Value};
@@ -42,7 +42,7 @@ impl MapBox {
         ensures list { (table : ℕ → ℕ → ℕ) (future : List Entry) (q : ℕ) → HasNoMarks future
             → ⟦<MapBox as Operator>⟧.rest result table future q ≡ at_zero q (things (map_list_of (trees exprs.items) (tuples_of future))) }
         ensures marked { (table : ℕ → ℕ → ℕ) (future : List Entry) (q : ℕ)
-            → IsFuture (⟦<MapBox as Operator>⟧.takes_marks result) (⟦<MapBox as Operator>⟧.fits result) Moment.Start future
+            → IsFuture (⟦<MapBox as Operator>⟧.takes_marks result) (⟦<MapBox as Operator>⟧.fits result) Position.Start future
             → ⟦<MapBox as Operator>⟧.rest result table future q ≡ at_zero q (spread_of (map_tagged (trees exprs.items) (tagged_of future))) }
         ensures fits { (port : ℕ) (fields : List Value) → ⟦<MapBox as Operator>⟧.fits result port fields ≡ makes_tuple exprs.items }
         ensures takes_marks { (port : ℕ) → ⟦<MapBox as Operator>⟧.takes_marks result port ≡ first_port port }
@@ -50,7 +50,7 @@ impl MapBox {
         ensures holds { (time : ℕ) (things : List Thing) → ⟦<MapBox as Operator>⟧.may_hold result time things → things ≡ [] }
         ensures decides { (table : ℕ → ℕ → ℕ) (future : List Entry) → ⟦<MapBox as Operator>⟧.decides result table future ≡ [] }
         ensures none_lost { (future : List Entry) → ⟦<MapBox as Operator>⟧.lost result future ≡ 0 }
-        ensures start { (⟦<MapBox as Operator>⟧.place result ≡ Moment.Start) × (⟦<MapBox as Operator>⟧.taken result ≡ 0) }
+        ensures start { (⟦<MapBox as Operator>⟧.place result ≡ Position.Start) × (⟦<MapBox as Operator>⟧.taken result ≡ 0) }
         ensures valid { ⟦<MapBox as Operator>⟧.valid result × IsTrue (⟦<MapBox as Operator>⟧.running result) }
     {
         MapBox {

@@ -9,7 +9,7 @@ ghost use Rattle.sq_value.specs.Values.{IsStream};
 ghost use Rattle.sq_item.specs.SoundItems.{IsMark, IsBody};
 ghost use Rattle.sq_item.specs.Things.{Thing, mark_part, body_part};
 ghost use Rattle.sq_lists.specs.Merge.{union};
-ghost use Rattle.sq_oper.specs.declared.tally.Moment.{Moment};
+ghost use Rattle.sq_oper.specs.declared.tally.Position.{Position};
 ghost use Rattle.sq_oper.specs.Entries.{Entry, at_port};
 ghost use Rattle.sq_oper.specs.Outflow.{given, ItemsSound};
 ghost use Rattle.sq_oper.specs.Machine.{next_all, gives_all};
@@ -21,7 +21,7 @@ ghost use Rattle.sq_plain.specs.Unions.{is_last_time, union_next, union_gives, u
 
 use crate::give::{give_mark, give_tuple};
 use sq_item::{Body, Item, Mark, Sign};
-use sq_oper::{Decision, Moment, Operator, Outlet, Tally};
+use sq_oper::{Decision, Operator, Outlet, Position, Tally};
 use sq_outside::Steps;
 use sq_road::Levels;
 use sq_tagged::{bound_of, lessen};
@@ -57,7 +57,7 @@ impl UnionBox {
         ensures list { (table : ℕ → ℕ → ℕ) (future : List Entry) (q : ℕ) → marked ≡ false → HasNoMarks future
             → ⟦<UnionBox as Operator>⟧.rest result table future q ≡ at_zero q (things (tuples_of future)) }
         ensures marked { (table : ℕ → ℕ → ℕ) (future : List Entry) (q : ℕ) → marked ≡ true
-            → IsFuture (⟦<UnionBox as Operator>⟧.takes_marks result) (⟦<UnionBox as Operator>⟧.fits result) Moment.Start future
+            → IsFuture (⟦<UnionBox as Operator>⟧.takes_marks result) (⟦<UnionBox as Operator>⟧.fits result) Position.Start future
             → ⟦<UnionBox as Operator>⟧.rest result table future q ≡ at_zero q (spread_of (united_tagged lags.items future)) }
         ensures fits { (port : ℕ) (fields : List Value) → ⟦<UnionBox as Operator>⟧.fits result port fields ≡ nat_lt port (length lags.items) }
         ensures takes_marks { (port : ℕ) → ⟦<UnionBox as Operator>⟧.takes_marks result port ≡ takes_union_mark marked lags.items port }
@@ -65,7 +65,7 @@ impl UnionBox {
         ensures holds { (time : ℕ) (things : List Thing) → ⟦<UnionBox as Operator>⟧.may_hold result time things → things ≡ [] }
         ensures decides { (table : ℕ → ℕ → ℕ) (future : List Entry) → ⟦<UnionBox as Operator>⟧.decides result table future ≡ [] }
         ensures none_lost { (future : List Entry) → ⟦<UnionBox as Operator>⟧.lost result future ≡ 0 }
-        ensures start { (⟦<UnionBox as Operator>⟧.place result ≡ Moment.Start) × (⟦<UnionBox as Operator>⟧.taken result ≡ 0) }
+        ensures start { (⟦<UnionBox as Operator>⟧.place result ≡ Position.Start) × (⟦<UnionBox as Operator>⟧.taken result ≡ 0) }
         ensures valid { ⟦<UnionBox as Operator>⟧.valid result × IsTrue (⟦<UnionBox as Operator>⟧.running result) }
     {
         UnionBox {

@@ -7,7 +7,7 @@ ghost use Rattle.sq_replay.specs.Streams.{stream_in};
 use crate::StreamErr;
 use crate::stream::test_lines;
 use crate::unread::{Unread, all_left, begun, take_next};
-use sq_value::{Schema, Tuple};
+use sq_value::{Schema, Tuple, Value};
 use std::alloc::{AllocError, Global};
 use std::collections::VecDeque;
 use std::marker::Model;
@@ -78,7 +78,18 @@ impl Stream {
         ensures taken { IfOk result (λ o. MatchOption o ((self.old.items ≡ []) × (self.new ≡ self.old)) (λ t. self.old.items ≡ t ∷ self.new.items)) }
         ensures err { OnErr result (self.new ≡ self.old) }
     {
-        take_next(&mut self.next, &mut self.listed, &mut self.unread)
+        let values = Vec::new(*self.listed.allocator());
+        self.take_into(values)
+    }
+
+    /// The same, where the values of the tuple behind it may lie in a vector that has none, so that it needs no memory.
+    #[inline(always)]
+    pub fn take_into(&mut self, values: Vec<Value>) -> Result<Option<Tuple>, AllocError>
+        requires empty { values.items ≡ [] }
+        ensures taken { IfOk result (λ o. MatchOption o ((self.old.items ≡ []) × (self.new ≡ self.old)) (λ t. self.old.items ≡ t ∷ self.new.items)) }
+        ensures err { OnErr result (self.new ≡ self.old) }
+    {
+        take_next(&mut self.next, &mut self.listed, &mut self.unread, values)
     }
 
     /// All tuples that are left, as a list.

@@ -14,7 +14,7 @@ use std::alloc::{AllocError, Global};
 /// A text value has at most so many bytes.
 const TEXT_LENGTH: usize = 255;
 
-/// Where a field ends that is a value of a kind whose values are no texts.
+/// The end of a field at a place, if it is a value of a kind without texts.
 #[inline(always)]
 fn behind_read(alloc: Global, kind: Kind, text: &[u8], from: usize) -> Option<usize>
     requires within { from ≤ length text.now }
@@ -48,7 +48,7 @@ fn is_text(field: &[u8], ascii: bool) -> bool
     }
 }
 
-/// Where a field ends that is a text value.
+/// The end of a field at a place, if it is a text value.
 #[inline(always)]
 fn behind_text(text: &[u8], from: usize) -> Option<usize>
     requires within { from ≤ length text.now }
@@ -64,7 +64,7 @@ fn behind_text(text: &[u8], from: usize) -> Option<usize>
     None
 }
 
-/// Where a field ends that is a number or empty. So few digits are a number of 64 bits, whichever they are.
+/// The end of a field at a place, if it is empty or a number of so few digits that 64 bits hold any of them.
 #[inline(always)]
 fn behind_int(alloc: Global, text: &[u8], from: usize) -> Option<usize>
     requires within { from ≤ length text.now }
@@ -93,7 +93,7 @@ fn behind_bare(alloc: Global, kind: Kind, text: &[u8], from: usize) -> Option<us
     }
 }
 
-/// Where a field with quotes within its quotes ends that is a text value.
+/// The end of a text value that has quotes within its quotes.
 fn behind_doubled(
     text: &[u8],
     from: usize,
@@ -112,7 +112,7 @@ fn behind_doubled(
     Ok(None)
 }
 
-/// Where a field that stands in quotes ends that is a text value.
+/// The end of a text value that stands in quotes.
 #[inline(always)]
 fn behind_quoted(
     text: &[u8],
@@ -134,7 +134,7 @@ fn behind_quoted(
     Ok(None)
 }
 
-/// Where the field ends that begins at a place, where it is a value. None says nothing.
+/// The end of the field at `from`, if the fast path accepts it. None: the slow path has to look.
 #[inline(always)]
 fn behind_first(
     alloc: Global,
@@ -153,7 +153,7 @@ fn behind_first(
     }
 }
 
-/// Where a line ends whose fields that are left are values of these kinds. None says nothing.
+/// The end of the line, if the fast path accepts the fields that are left. None: the slow path has to look.
 #[inline(always)]
 fn behind_values(
     alloc: Global,
@@ -181,8 +181,8 @@ fn behind_values(
     Ok(Some(at))
 }
 
-/// The time of the tuple of the line that begins at a place, where no tuple before it is later than `latest`, and where the line
-/// ends. None says nothing.
+/// The tick of the tuple of the line at `from`, and the line's end, if the fast path accepts it and no tuple before it is later
+/// than `latest`. None: the slow path has to look.
 #[inline(always)]
 pub(crate) fn time_at_once(
     alloc: Global,

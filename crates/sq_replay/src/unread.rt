@@ -7,10 +7,10 @@ ghost use Rattle.sq_replay.specs.Streams.{tuple_of_line};
 ghost use Rattle.sq_replay.specs.RestOfText.{all_to_come, unread_tuples, with_next};
 
 use crate::line::{TupleErr, read_tuple};
-use crate::plain::read_at_once;
+use crate::plain::read_into;
 use crate::stream::{piece_at, without_return};
 use sq_csv::stands_at;
-use sq_value::{Kind, Tuple};
+use sq_value::{Kind, Tuple, Value};
 use std::alloc::{AllocError, Global};
 use std::collections::VecDeque;
 
@@ -147,7 +147,8 @@ fn read_next(unread: &mut Unread) -> Result<Option<Tuple>, AllocError>
 
 /// Reads the next tuple of a text in place, where its line lets itself be read so. None says nothing, and then none is read.
 #[inline(always)]
-fn read_in_place(unread: &mut Unread) -> Result<Option<Tuple>, AllocError>
+fn read_in_place(unread: &mut Unread, values: Vec<Value>) -> Result<Option<Tuple>, AllocError>
+    requires empty { values.items ≡ [] }
     ensures read { IfOk result (λ o. IfSome o (λ t. t ∷ unread_tuples unread.new ≡ unread_tuples unread.old)) }
     ensures none { IfOk result (λ o. o ≡ None → unread_tuples unread.new ≡ unread_tuples unread.old) }
     ensures err { OnErr result (unread_tuples unread.new ≡ unread_tuples unread.old) }
@@ -157,13 +158,14 @@ fn read_in_place(unread: &mut Unread) -> Result<Option<Tuple>, AllocError>
     }
     let alloc = *unread.text.allocator();
     let mut end = 0usize;
-    let Some(tuple) = read_at_once(
+    let Some(tuple) = read_into(
         alloc,
         &unread.kinds,
         unread.latest,
         &unread.text,
         unread.at,
         &mut unread.unquoted,
+        values,
         &mut end,
     )?
     else {
@@ -202,13 +204,15 @@ fn take_first(
     Ok(listed.pop_front())
 }
 
-/// Takes the next tuple, where there is one, and gets the one behind it. What is read in place is put in its place at once: where
+/// Takes the next tuple, where there is one, and gets the one behind it, whose values may lie in a vector that has none. What is read in place is put in its place at once: where
 /// it met what comes by other ways it would be copied, and the copy would wait for what was just written.
 pub(crate) fn take_next(
     next: &mut Option<Tuple>,
     listed: &mut VecDeque<Tuple>,
     unread: &mut Unread,
+    values: Vec<Value>,
 ) -> Result<Option<Tuple>, AllocError>
+    requires empty { values.items ≡ [] }
     ensures taken { IfOk result (λ o. MatchOption o
         ((all_to_come next.old listed.old.items unread.old ≡ []) × (all_to_come next.new listed.new.items unread.new ≡ []))
         (λ t. all_to_come next.old listed.old.items unread.old ≡ t ∷ all_to_come next.new listed.new.items unread.new)) }
@@ -218,7 +222,7 @@ pub(crate) fn take_next(
         return Ok(None);
     }
     if listed.is_empty() {
-        if let Some(tuple) = read_in_place(unread)? {
+        if let Some(tuple) = read_in_place(unread, values)? {
             return Ok(next.replace(tuple));
         }
     }

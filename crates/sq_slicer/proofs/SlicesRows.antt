@@ -12,7 +12,7 @@ use Rattle.sq_net.specs.declared.NetErr.TheVariants as net
 use Rattle.sq_net.specs.declared.Network.{Network}
 use Rattle.sq_net.specs.declared.Node.{Node}
 use Rattle.sq_net.specs.declared.Output.{Output}
-use Rattle.sq_teller.specs.declared.Status.TheVariants as status
+use Rattle.sq_teller.specs.declared.Ending.TheVariants as status
 use Rattle.sq_teller.specs.Replies.{Refuses}
 use Rattle.sq_slicer.specs.Words.{slices_asked}
 use Rattle.sq_slicer.specs.Lines.{has_no_slices, slices_text}

@@ -3,15 +3,15 @@ ghost use Rattle.std.specs.Prelude.{◌<◌, ◌^◌};
 ghost use Rattle.std.specs.Option.{IfSome};
 ghost use Rattle.sq_slicer.specs.Answers.{slices_reply};
 
-use crate::Asked;
+use crate::SlicesAsked;
 use crate::lines::slices_text;
 use sq_net::NetErr;
 use sq_reader::read_network;
-use sq_teller::{Inquiry, Status};
+use sq_teller::{Ending, Inquiry};
 use sq_value::Name;
 use std::alloc::Global;
 
-impl Inquiry for Asked {
+impl Inquiry for SlicesAsked {
     ghost file = { λ a. a.net };
 
     ghost reply = { slices_reply };
@@ -22,15 +22,15 @@ impl Inquiry for Asked {
         &self.net
     }
 
-    fn answer(&self, alloc: Global, bytes: &[u8]) -> Result<(Vec<u8>, bool), Status> {
+    fn answer(&self, alloc: Global, bytes: &[u8]) -> Result<(Vec<u8>, bool), Ending> {
         let n = match read_network(alloc, bytes) {
             Ok(n) => n,
-            Err(NetErr::Memory) => return Err(Status::Memory),
-            Err(e) => return Err(Status::BadNetwork(e)),
+            Err(NetErr::Memory) => return Err(Ending::Memory),
+            Err(e) => return Err(Ending::BadNetwork(e)),
         };
         match slices_text(alloc, &n, self.delay) {
             Ok(said) => Ok(said),
-            Err(_) => Err(Status::Memory),
+            Err(_) => Err(Ending::Memory),
         }
     }
 }

@@ -10,7 +10,7 @@ ghost use Rattle.std.specs.Prelude.{◌≡◌, ◌≢◌, ◌≤◌, map};
 ghost use Rattle.std.specs.String.{string_bytes};
 ghost use Rattle.sq_net.specs.declared.NetErr.TheVariants as net;
 ghost use Rattle.sq_outside.specs.Sinks.{AppendsSuch};
-ghost use Rattle.sq_teller.specs.Ends.{TellsEnding};
+ghost use Rattle.sq_teller.specs.Ends.{TellsEnding, around};
 ghost use Rattle.sq_slicer.specs.Ends.{SlicesEnd};
 ghost use Rattle.sq_slicer.specs.Words.{slices_asked};
 
@@ -19,16 +19,17 @@ mod lines;
 mod words;
 
 pub use lines::slices_text;
+use sq_command::WordsErr;
 use sq_net::NetErr;
 use sq_outside::{Folder, Sink};
-use sq_teller::{Program, Status, WordsErr, answered, told};
+use sq_teller::{Ending, Program, answered, told};
 use sq_value::Name;
 use std::alloc::Global;
 pub use words::read_words;
 
 /// What words ask for.
 #[derive(Drop)]
-pub struct Asked {
+pub struct SlicesAsked {
     /// How many ticks after the time in its field a tuple may come to a BSort: the user's word for it.
     pub delay: Option<u64>,
     /// The network's file.
@@ -41,29 +42,16 @@ fn run<F: Folder, S: Sink>(
     words: &Vec<String>,
     folder: &mut F,
     out: &mut S,
-) -> Status
-    ensures ends { SlicesEnd (slices_asked (map string_bytes words.now.items)) (record {
-      told = F.files folder.old;
-      folder_before = F.faults folder.old;
-      folder_now = F.faults folder.new;
-      taken_before = F.taken folder.old;
-      taken_now = F.taken folder.new;
-      read_before = F.read folder.old;
-      read_now = F.read folder.new;
-      out_before = S.written out.old;
-      out_now = S.written out.new;
-      sink_before = S.faults out.old;
-      sink_now = S.faults out.new;
-    })
-        result }
-    ensures no_memory { result ≢ Status.BadNetwork net.Memory }
+) -> Ending
+    ensures ends { SlicesEnd (slices_asked (map string_bytes words.now.items)) (around F.Folder folder.old folder.new S.Sink out.old out.new) result }
+    ensures no_memory { result ≢ Ending.BadNetwork net.Memory }
     ensures files { F.files folder.new ≡ F.files folder.old }
     ensures later { (F.faults folder.old ≤ F.faults folder.new) × (F.taken folder.old ≤ F.taken folder.new) × (S.faults out.old ≤ S.faults out.new) }
 {
     match read_words(alloc, words) {
         Ok(asked) => answered(alloc, &asked, folder, out),
-        Err(WordsErr::Usage) => Status::Usage,
-        Err(WordsErr::Memory) => Status::Memory,
+        Err(WordsErr::Usage) => Ending::Usage,
+        Err(WordsErr::Memory) => Ending::Memory,
     }
 }
 
@@ -74,24 +62,11 @@ pub fn run_slices<F: Folder, S: Sink, E: Sink>(
     folder: &mut F,
     out: &mut S,
     err: &mut E,
-) -> Status
+) -> Ending
     // By the bytes that the folder gave: the one read of this call, of the file that the words name.
-    ensures ends { SlicesEnd (slices_asked (map string_bytes words.now.items)) (record {
-      told = F.files folder.old;
-      folder_before = F.faults folder.old;
-      folder_now = F.faults folder.new;
-      taken_before = F.taken folder.old;
-      taken_now = F.taken folder.new;
-      read_before = F.read folder.old;
-      read_now = F.read folder.new;
-      out_before = S.written out.old;
-      out_now = S.written out.new;
-      sink_before = S.faults out.old;
-      sink_now = S.faults out.new;
-    })
-        result }
+    ensures ends { SlicesEnd (slices_asked (map string_bytes words.now.items)) (around F.Folder folder.old folder.new S.Sink out.old out.new) result }
     ensures tells { AppendsSuch (E.written err.old) (E.written err.new) (TellsEnding Program.Slices (E.faults err.old) (E.faults err.new) result) }
-    ensures no_memory { result ≢ Status.BadNetwork net.Memory }
+    ensures no_memory { result ≢ Ending.BadNetwork net.Memory }
     ensures same_files { F.files folder.new ≡ F.files folder.old }
     ensures later { (F.faults folder.old ≤ F.faults folder.new) × (F.taken folder.old ≤ F.taken folder.new)
         × (S.faults out.old ≤ S.faults out.new) × (E.faults err.old ≤ E.faults err.new) }

@@ -9,7 +9,7 @@ use Rattle.std.proofs.lemmas.Option.{slice_get-get_or, slice_get_within}
 use Rattle.sq_value.specs.declared.Value.{Value}
 use Rattle.sq_words.specs.Lists.{numbers_to}
 use Rattle.sq_value.specs.Values.{Columns, IsStream, fields_fit}
-use Rattle.sq_oper.specs.declared.tally.Moment.TheVariants.{Start}
+use Rattle.sq_oper.specs.declared.tally.Position.TheVariants.{Start}
 use Rattle.sq_oper.specs.Order.{unmarked, IsFuture}
 use Rattle.sq_graph.specs.declared.BoxWires.{BoxWires}
 use Rattle.sq_graph.specs.Wires.{inputs_at, inputs_of, arc_at, input_arcs_of, output_arc_at}
@@ -26,7 +26,7 @@ use Rattle.sq_model.specs.FittingStreams.{SourcesFit}
 use Rattle.sq_model.specs.Shedding.{Replay}
 use Rattle.sq_below.specs.Laws.{PointsMeasured}
 use Rattle.sq_below.specs.ArcContents.{Drop, takes, fits_columns, fits_stream, fits_inputs, BoxesFit, DropsFit, OutputsFit, drop_fed}
-use Rattle.sq_below.specs.Actors.{Sources, Box, Shedder, Shower}
+use Rattle.sq_below.specs.Actors.{Sources, Box, WindowDrop, OutputGate}
 use Rattle.sq_below.specs.Ports.{body_marks, may_be_below, AllReady, FuturesWiden}
 use Rattle.sq_below.proofs.FromSound.{fits-at, ranks-of}
 use Rattle.sq_below.proofs.Feeding.{inputs-alike, output-alike}
@@ -98,8 +98,8 @@ module _ (readies : Ready) where
 
   pub marks-taken : MarksAreTaken
   marks-taken n Sources port a sound there below = absurd (cc there)
-  marks-taken n (Shedder w) port a sound there below = absurd (cc there)
-  marks-taken n (Shower o) port a sound there below = (let f = first-only (output_arc_at n.wires o) port a there in ap (λ k. k == 0) f.0)
+  marks-taken n (WindowDrop w) port a sound there below = absurd (cc there)
+  marks-taken n (OutputGate o) port a sound there below = (let f = first-only (output_arc_at n.wires o) port a there in ap (λ k. k == 0) f.0)
   marks-taken n (Box b) port a sound there below = by (drop_above_box n b) refl
     where
       alike : (o : Option Drop) → drop_above_box n b ≡ o → drop_above_arc n a ≡ o
@@ -164,17 +164,17 @@ module _ (widen : FuturesWiden)
         where
           lower : (a b : ℕ) → nat_lt a b ≡ true → a < b
           lower a b h = grind (arith, nat_tests)
-  may-come r (Shedder w) marks fits read there arcs = by (slice_get (points_of r.network) w) refl
+  may-come r (WindowDrop w) marks fits read there arcs = by (slice_get (points_of r.network) w) refl
     where
       by : (o : Option DropPoint) → slice_get (points_of r.network) w ≡ o → IsFuture marks fits Start (drop_fed_at r (slice_get (points_of r.network) w))
       by None e = subst (λ z. IsFuture marks fits Start (drop_fed_at r z)) (sym e) (record { in_order = tt; fitting = tt })
       by (Some p) e =
           subst (λ z. IsFuture marks fits Start (drop_fed_at r z)) (sym e)
           (drop-comes r w p marks fits read e (λ port s cs fields at columns fit. arcs.wide port s cs fields (ap (λ z. slice_get (point_streams r.network z) port) e ∙ at) columns fit))
-  may-come r (Shower o) marks fits read there arcs =
-      widen (takes (drop_above_output r.network o) 1) marks (fits_inputs r.network (streams_to r.network (Shower o))) fits Start (fed_to r (Shower o))
+  may-come r (OutputGate o) marks fits read there arcs =
+      widen (takes (drop_above_output r.network o) 1) marks (fits_inputs r.network (streams_to r.network (OutputGate o))) fits Start (fed_to r (OutputGate o))
       (λ port e. by (drop_above_output r.network o) refl port e)
-      (stream-fits r.network (streams_to r.network (Shower o)) fits arcs.wide)
+      (stream-fits r.network (streams_to r.network (OutputGate o)) fits arcs.wide)
       ((outputs r read.sound read.streams read.fit).future o)
     where
       by : (z : Option Drop) → drop_above_output r.network o ≡ z → (port : ℕ) → takes z 1 port ≡ true → marks port ≡ true

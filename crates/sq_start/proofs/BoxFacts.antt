@@ -6,7 +6,7 @@ use Rattle.sq_value.specs.declared.Value.{Value}
 use Rattle.sq_value.specs.Values.{IsStream}
 use Rattle.sq_item.specs.Things.{Content, Sign, Thing}
 use Rattle.sq_item.specs.Things as item
-use Rattle.sq_oper.specs.declared.tally.Moment.TheVariants.{Start}
+use Rattle.sq_oper.specs.declared.tally.Position.TheVariants.{Start}
 use Rattle.sq_oper.specs.Entries.{Entry}
 use Rattle.sq_oper.specs.Order.{content_fits, AllFit, IsFuture}
 use Rattle.sq_tagged.specs.TaggedStreams.{HasNoMarks}

@@ -14,7 +14,7 @@ use Rattle.sq_lists.specs.Sorting.{bsort_list_of}
 use Rattle.sq_lists.specs.Windows.{aggregate_of, window_results, in_window, starts_of}
 use Rattle.sq_lists.specs.Pairs.{join_list_of, pairs_from}
 use Rattle.sq_lists.specs.Resamples.{resample_list_of}
-use Rattle.sq_oper.specs.declared.tally.Moment.TheVariants.{Start}
+use Rattle.sq_oper.specs.declared.tally.Position.TheVariants.{Start}
 use Rattle.sq_oper.specs.Entries.{Entry}
 use Rattle.sq_oper.specs.Order.{IsFuture, unmarked}
 use Rattle.sq_oper.specs.Streams.{tuple_in, tuples_at, tuples_of, things, at_zero, at_ports_below}

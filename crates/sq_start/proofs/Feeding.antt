@@ -7,7 +7,7 @@ use Rattle.std.proofs.lemmas.Bool.Decides.{nat_tests}
 use Rattle.std.proofs.lemmas.Option.{slice_get-get_or}
 use Rattle.sq_item.specs.Things.{Thing}
 use Rattle.sq_oper.specs.Order.{merge, IsFuture}
-use Rattle.sq_oper.specs.declared.tally.Moment.TheVariants.{Start}
+use Rattle.sq_oper.specs.declared.tally.Position.TheVariants.{Start}
 use Rattle.sq_graph.specs.Wires.{producer_of, input_arcs_of}
 use Rattle.sq_place.specs.declared.DropPoint.{DropPoint}
 use Rattle.sq_place.specs.declared.DropAt.TheVariants as at
@@ -16,8 +16,8 @@ use Rattle.sq_model.specs.Shedding.{Replay}
 use Rattle.sq_left.specs.Remainder.{Net, Holding}
 use Rattle.sq_below.specs.Laws.{PointsMeasured}
 use Rattle.sq_below.specs.ArcContents.{drop_fed, DropsFit}
-use Rattle.sq_below.specs.Actors.{Actor, Box, Shedder, Shower, giver, arc_from, stream_of, StreamsFollow}
-use Rattle.sq_start.specs.Numbers.{IsThere, ops_of, number_of, actor_at, place_stream, shedder_reads, reads_of}
+use Rattle.sq_below.specs.Actors.{Actor, Box, WindowDrop, OutputGate, giver, arc_from, stream_of, StreamsFollow}
+use Rattle.sq_start.specs.Numbers.{IsThere, ops_of, number_of, actor_at, place_stream, window_drop_reads, reads_of}
 use Rattle.sq_start.specs.Nets.{AllCome, fed_to, drop_fed_at}
 use Rattle.sq_start.specs.Starts.{IsReadReplay}
 use Rattle.sq_start.specs.Laws.{IsNew}
@@ -94,14 +94,14 @@ module _ (r : Replay) (read : IsReadReplay r) (follow : StreamsFollow r) (drops 
             let is = ap (actor_at r.network) at ∙ drop-at r.network d few in
             let there = slice_get-get_or (points_of r.network) d no_point few in
             let p = get_or (points_of r.network) d no_point in
-            reads k (Shedder d) low is
-            ∙ ap (λ o. merge (map (stream_of r) (shedder_reads r.network o))) there
+            reads k (WindowDrop d) low is
+            ∙ ap (λ o. merge (map (stream_of r) (window_drop_reads r.network o))) there
             ∙ drop-follows d p there
             ∙ ap (drop_fed_at r) (sym there)
             ∙ ap (fed_to r) (sym is)
         by (inr (inr (o, at, few))) =
             let is = ap (actor_at r.network) at ∙ output-at r.network o few in
-            reads k (Shower o) low is ∙ follow.outputs o few ∙ ap (fed_to r) (sym is)
+            reads k (OutputGate o) low is ∙ follow.outputs o few ∙ ap (fed_to r) (sym is)
 
     pub start : IsStart net w (streams_by r)
     start = record {

@@ -16,8 +16,8 @@ use Rattle.sq_place.specs.declared.DropPoint.{DropPoint}
 use Rattle.sq_place.specs.Places.{stream_on}
 use Rattle.sq_points.specs.Points.{points_of, drops_in}
 use Rattle.sq_below.specs.ArcContents.{Drop}
-use Rattle.sq_below.specs.Actors.{Actor, Sources, Box, Shedder, Shower, giver, from_drop, arc_from}
-use Rattle.sq_start.specs.Numbers.{IsThere, first_output, ops_of, number_of, actor_at, place_stream, shedder_reads, reads_of}
+use Rattle.sq_below.specs.Actors.{Actor, Sources, Box, WindowDrop, OutputGate, giver, from_drop, arc_from}
+use Rattle.sq_start.specs.Numbers.{IsThere, first_output, ops_of, number_of, actor_at, place_stream, window_drop_reads, reads_of}
 use Rattle.sq_start.proofs.PointLemmas.{first-found}
 use Rattle.sq_words.proofs.Numbers.{nat_lt_true}
 use Rattle.sq_points.specs.Above.{drop_on_arc}
@@ -28,20 +28,20 @@ not-less a b h = grind (arith, nat_tests)
 pub box-at : (n : Network) (b : ℕ) → b < length n.boxes → actor_at n b ≡ Box b
 box-at n b low = rw (nat_lt_true b (length n.boxes) low) refl
 
-pub drop-at : (n : Network) (w : ℕ) → w < drops_in n → actor_at n (length n.boxes + w) ≡ Shedder w
+pub drop-at : (n : Network) (w : ℕ) → w < drops_in n → actor_at n (length n.boxes + w) ≡ WindowDrop w
 drop-at n w low =
     let past = not-less (length n.boxes + w) (length n.boxes) (omega arith) in
     let before = nat_lt_true (length n.boxes + w) (first_output n) (omega (arith, low)) in
     let place : length n.boxes + w - length n.boxes ≡ w = omega arith in
-    rw (past, before) (ap Shedder place)
+    rw (past, before) (ap WindowDrop place)
 
-pub output-at : (n : Network) (o : ℕ) → o < length n.wires.outputs → actor_at n (first_output n + o) ≡ Shower o
+pub output-at : (n : Network) (o : ℕ) → o < length n.wires.outputs → actor_at n (first_output n + o) ≡ OutputGate o
 output-at n o low =
     let past = not-less (first_output n + o) (length n.boxes) (omega arith) in
     let behind = not-less (first_output n + o) (first_output n) (omega arith) in
     let before = nat_lt_true (first_output n + o) (ops_of n) (omega (arith, low)) in
     let place : first_output n + o - first_output n ≡ o = omega arith in
-    rw (past, behind, before) (ap Shower place)
+    rw (past, behind, before) (ap OutputGate place)
 
 pub replay-at : (n : Network) → actor_at n (ops_of n) ≡ Sources
 replay-at n =
@@ -69,8 +69,8 @@ which n k low =
 pub there-at : (n : Network) (x : Actor) → IsThere n x → (number_of n x ≤ ops_of n) × (actor_at n (number_of n x) ≡ x)
 there-at n Sources h = (omega arith, replay-at n)
 there-at n (Box b) h = (omega (arith, h), box-at n b h)
-there-at n (Shedder w) h = (omega (arith, h), drop-at n w h)
-there-at n (Shower o) h = (omega (arith, h), output-at n o h)
+there-at n (WindowDrop w) h = (omega (arith, h), drop-at n w h)
+there-at n (OutputGate o) h = (omega (arith, h), output-at n o h)
 
 -- what gives a stream is there
 pub giver-there : (n : Network) → IsSound n → (s : ℕ) → IsThere n (giver (producer_of n.wires s)).0
@@ -103,9 +103,9 @@ reads-there n sound (Box b) = each (input_arcs_of n.wires b)
     each : (arcs : List ℕ) → AllByRecursion (λ (y : Actor × ℕ). IsThere n y.0) (map (arc_from n) arcs)
     each [] = tt
     each (a ∷ arcs) = (from-there n sound a, each arcs)
-reads-there n sound (Shedder w) = by (slice_get (points_of n) w)
+reads-there n sound (WindowDrop w) = by (slice_get (points_of n) w)
   where
-    by : (o : Option DropPoint) → AllByRecursion (λ (y : Actor × ℕ). IsThere n y.0) (shedder_reads n o)
+    by : (o : Option DropPoint) → AllByRecursion (λ (y : Actor × ℕ). IsThere n y.0) (window_drop_reads n o)
     by None = tt
     by (Some p) = (giver-there n sound (place_stream n p.at), tt)
-reads-there n sound (Shower o) = (from-there n sound (output_arc_at n.wires o), tt)
+reads-there n sound (OutputGate o) = (from-there n sound (output_arc_at n.wires o), tt)

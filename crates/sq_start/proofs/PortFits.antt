@@ -23,7 +23,7 @@ use Rattle.sq_net.specs.Streams.{columns_of_stream}
 use Rattle.sq_place.specs.declared.DropPoint.{DropPoint}
 use Rattle.sq_points.specs.Points.{points_of}
 use Rattle.sq_below.specs.Ports.{body_fits}
-use Rattle.sq_below.specs.Actors.{Sources, Box, Shedder, Shower}
+use Rattle.sq_below.specs.Actors.{Sources, Box, WindowDrop, OutputGate}
 use Rattle.sq_below.proofs.PortTypes.{resample-takes, left-count, length-prefixed, side-fits}
 use Rattle.sq_start.specs.Numbers.{place_stream}
 use Rattle.sq_start.specs.Arrivals.{point_streams, TuplesAreTaken}
@@ -184,9 +184,9 @@ tuples-taken n Sources port s cs fields sound low at are wide = absurd (cc at)
 tuples-taken n (Box b) port s cs fields sound low at are wide =
     let x = has_item n.boxes b low in
     ap (λ o. node_fits o (length (inputs_of n.wires b)) port fields) x.1 ∙ box-wide n sound b port s x.0 fields cs x.1 at are wide
-tuples-taken n (Shedder w) port s cs fields sound low at are wide = by (slice_get (points_of n) w) at
+tuples-taken n (WindowDrop w) port s cs fields sound low at are wide = by (slice_get (points_of n) w) at
   where
     by : (o : Option DropPoint) → slice_get (point_streams n o) port ≡ Some s → (port == 0) ≡ true
     by None e = absurd (cc e)
     by (Some p) e = ap (λ k. k == 0) (first-only (place_stream n p.at) port s e)
-tuples-taken n (Shower o) port s cs fields sound low at are wide = refl
+tuples-taken n (OutputGate o) port s cs fields sound low at are wide = refl

@@ -14,7 +14,7 @@ use Rattle.sq_left.specs.Remainder.{Net, Holding, coming, inputs, IsLaidOut, fed
 use Rattle.sq_left.proofs.NewEngine.{new-left, new-inputs, new-facts}
 use Rattle.sq_below.specs.Laws.{PointsMeasured}
 use Rattle.sq_below.specs.ArcContents.{DropsFit, OutputsFit, FedCounted}
-use Rattle.sq_below.specs.Actors.{Actor, Sources, Box, Shedder, Shower, stream_of, StreamsFollow}
+use Rattle.sq_below.specs.Actors.{Actor, Sources, Box, WindowDrop, OutputGate, stream_of, StreamsFollow}
 use Rattle.sq_start.specs.Numbers.{first_output, ops_of, actor_at}
 use Rattle.sq_start.specs.Nets.{fed_to, drop_fed_at, tuples_at_drop, count_fed}
 use Rattle.sq_start.specs.Starts.{IsReadReplay}
@@ -106,8 +106,8 @@ module _ (r : Replay) (read : IsReadReplay r) (follow : StreamsFollow r) (drops 
       by : (x : Actor) → length (tuples_of (fed_to r x)) ≡ count_fed r x
       by Sources = refl
       by (Box b) = fed.boxes b
-      by (Shedder d) = count-drop (slice_get (points_of r.network) d)
-      by (Shower o) = fed.outputs o
+      by (WindowDrop d) = count-drop (slice_get (points_of r.network) d)
+      by (OutputGate o) = fed.outputs o
 
   fed-at-last : (k : ℕ) → k < ops_of r.network → fed_in_all net w order k ≡ count_fed r (actor_at r.network k)
   fed-at-last k low =

@@ -6,7 +6,7 @@ use Rattle.std.proofs.lemmas.Option.{slice_get-get_or}
 use Rattle.std.proofs.lemmas.List.FromFn.{length-range_with_len}
 use Rattle.sq_value.specs.declared.Value.{Value}
 use Rattle.sq_words.specs.Lists.{numbers_to, max_by}
-use Rattle.sq_oper.specs.declared.tally.Moment.TheVariants.{Start}
+use Rattle.sq_oper.specs.declared.tally.Position.TheVariants.{Start}
 use Rattle.sq_oper.specs.declared.outs.Decision.{Decision}
 use Rattle.sq_oper.specs.Entries.{Entry}
 use Rattle.sq_oper.specs.Order.{IsFuture}
@@ -19,7 +19,7 @@ use Rattle.sq_model.specs.Shedding.{Replay, batch_level}
 use Rattle.sq_actor.specs.declared.actor.Actor as operator
 use Rattle.sq_actor.specs.contracts.actor.ActorOperator.TheImpl.{ghosts}
 use Rattle.sq_below.specs.ArcContents.{Drop}
-use Rattle.sq_below.specs.Actors.{Box, Shedder, Shower}
+use Rattle.sq_below.specs.Actors.{Box, WindowDrop, OutputGate}
 use Rattle.sq_below.specs.Ports.{body_fits, body_marks}
 use Rattle.sq_start.specs.Nets.{fed_to, drop_fed_at, drop_decisions}
 use Rattle.sq_start.specs.Starts.{IsReadReplay, IsDropAbove, AreLags, IsBox, IsDrop, length_above, BoxStarts, DropStarts, OutputStarts}
@@ -53,7 +53,7 @@ box-started n b x lags marked a there above are starts none fits takes reads fre
       gives = λ r read is same q. starts.gives r b (box r read is) q;
       decides = λ r read is same. none (batch_level r) (fed_to r (Box b));
       loses = λ r read is same. starts.loses r b (box r read is);
-      owns = λ table future may. subst (AllByRecursion (λ d. Box b ≡ Shedder d.drop)) (sym (none table future)) tt;
+      owns = λ table future may. subst (AllByRecursion (λ d. Box b ≡ WindowDrop d.drop)) (sym (none table future)) tt;
       marks = marks;
       fits = λ port fields h. fits port fields ∙ ap (λ k. body_fits x.body k port fields) (lags-many n b lags (drop_above_box n b) are) ∙ sym (ap (λ o. node_fits o (length (inputs_of n.wires b)) port fields) there) ∙ h;
       reads = reads n.epoch;
@@ -89,13 +89,13 @@ pub drop-started : (n : Network) (w : ℕ) (p : DropPoint) (number : ℕ) (a : o
     → DropStarts w p n.epoch number (ghosts.takes_marks a) (ghosts.fits a) (ghosts.rest a) (ghosts.decides a)
     → ((table : ℕ → ℕ → ℕ) (future : List Entry) → IsFuture (ghosts.takes_marks a) (ghosts.fits a) Start future → AllByRecursion (λ d. d.drop ≡ w) (ghosts.decides a table future))
     → ((future : List Entry) → ghosts.lost a future ≡ 0) → ((port : ℕ) (fields : List Value) → ghosts.fits a port fields ≡ (port == 0))
-    → ghosts.reads a n.epoch ≡ true → IsFresh a → IsStarted n number (Shedder w) a
+    → ghosts.reads a n.epoch ≡ true → IsFresh a → IsStarted n number (WindowDrop w) a
 drop-started n w p number a there starts own none fits reads fresh =
     record {
       gives = λ r read is same q. (let k = known r is in ap (λ es. ghosts.rest a (batch_level r) es q) (ap (drop_fed_at r) k) ∙ starts.gives r (of r read is same) q);
       decides = λ r read is same. (let k = known r is in ap (ghosts.decides a (batch_level r)) (ap (drop_fed_at r) k) ∙ starts.decided r (of r read is same) ∙ sym (ap (drop_decisions r w) k));
-      loses = λ r read is same. none (fed_to r (Shedder w));
-      owns = λ table future may. all_weaker (λ (d : Decision). d.drop ≡ w) (λ (d : Decision). Shedder w ≡ Shedder d.drop) (λ d e. ap Shedder (sym e)) (ghosts.decides a table future) (own table future may);
+      loses = λ r read is same. none (fed_to r (WindowDrop w));
+      owns = λ table future may. all_weaker (λ (d : Decision). d.drop ≡ w) (λ (d : Decision). WindowDrop w ≡ WindowDrop d.drop) (λ d e. ap WindowDrop (sym e)) (ghosts.decides a table future) (own table future may);
       marks = λ port h. absurd (cc h);
       fits = λ port fields h. fits port fields ∙ h;
       reads = reads;
@@ -116,13 +116,13 @@ pub output-started : (n : Network) (o : ℕ) (len : Option ℕ) (a : operator.Ac
     → OutputStarts len (ghosts.takes_marks a) (ghosts.fits a) (ghosts.rest a)
     → ((table : ℕ → ℕ → ℕ) (future : List Entry) → ghosts.decides a table future ≡ []) → ((future : List Entry) → ghosts.lost a future ≡ 0)
     → ((port : ℕ) (fields : List Value) → ghosts.fits a port fields ≡ true) → ((port : ℕ) → ghosts.takes_marks a port ≡ (port == 0))
-    → ((epoch : ℕ) → ghosts.reads a epoch ≡ true) → IsFresh a → (number : ℕ) → IsStarted n number (Shower o) a
+    → ((epoch : ℕ) → ghosts.reads a epoch ≡ true) → IsFresh a → (number : ℕ) → IsStarted n number (OutputGate o) a
 output-started n o len a told starts none lost fits takes reads fresh number =
     record {
       gives = λ r read is same q. starts.gives r o (record { read = read; told = ap (λ (m : Network). length_above (drop_above_output m o)) is ∙ told }) q;
-      decides = λ r read is same. none (batch_level r) (fed_to r (Shower o));
-      loses = λ r read is same. lost (fed_to r (Shower o));
-      owns = λ table future may. subst (AllByRecursion (λ d. Shower o ≡ Shedder d.drop)) (sym (none table future)) tt;
+      decides = λ r read is same. none (batch_level r) (fed_to r (OutputGate o));
+      loses = λ r read is same. lost (fed_to r (OutputGate o));
+      owns = λ table future may. subst (AllByRecursion (λ d. OutputGate o ≡ WindowDrop d.drop)) (sym (none table future)) tt;
       marks = λ port h. takes port ∙ h;
       fits = λ port fields h. fits port fields;
       reads = reads n.epoch;

@@ -2,7 +2,7 @@
 use Rattle.std.specs.Prelude.{◌≡◌, ℕ, Bool, true, List, [], ◌∷◌, length, Option, Some, None, is_some, slice_get}
 use Rattle.sq_value.specs.declared.Value.{Value}
 use Rattle.sq_value.specs.Values.{Columns, fields_fit}
-use Rattle.sq_oper.specs.declared.tally.Moment.TheVariants.{Start}
+use Rattle.sq_oper.specs.declared.tally.Position.TheVariants.{Start}
 use Rattle.sq_oper.specs.Order.{IsFuture}
 use Rattle.sq_graph.specs.Wires.{inputs_of, input_arcs_of, output_arc_at}
 use Rattle.sq_place.specs.declared.DropPoint.{DropPoint}
@@ -12,7 +12,7 @@ use Rattle.sq_net.specs.SoundNetworks.{IsSound}
 use Rattle.sq_net.specs.Streams.{columns_of_stream}
 use Rattle.sq_points.specs.Points.{points_of}
 use Rattle.sq_model.specs.Shedding.{Replay}
-use Rattle.sq_below.specs.Actors.{Actor, Sources, Box, Shedder, Shower}
+use Rattle.sq_below.specs.Actors.{Actor, Sources, Box, WindowDrop, OutputGate}
 use Rattle.sq_start.specs.Numbers.{IsThere, place_stream}
 use Rattle.sq_start.specs.Nets.{fed_to}
 use Rattle.sq_start.specs.Starts.{IsReadReplay}
@@ -23,8 +23,8 @@ use Rattle.sq_points.specs.Above.{drop_above_arc}
 abbrev pub arcs_to : Network → Actor → List ℕ
 arcs_to n Sources = []
 arcs_to n (Box b) = input_arcs_of n.wires b
-arcs_to n (Shedder w) = []
-arcs_to n (Shower o) = output_arc_at n.wires o ∷ []
+arcs_to n (WindowDrop w) = []
+arcs_to n (OutputGate o) = output_arc_at n.wires o ∷ []
 
 -- the streams that an actor reads, by port
 abbrev pub point_streams : Network → Option DropPoint → List ℕ
@@ -34,8 +34,8 @@ point_streams n (Some p) = place_stream n p.at ∷ []
 abbrev pub streams_to : Network → Actor → List ℕ
 streams_to n Sources = []
 streams_to n (Box b) = inputs_of n.wires b
-streams_to n (Shedder w) = point_streams n (slice_get (points_of n) w)
-streams_to n (Shower o) = stream_on n.wires (output_arc_at n.wires o) ∷ []
+streams_to n (WindowDrop w) = point_streams n (slice_get (points_of n) w)
+streams_to n (OutputGate o) = stream_on n.wires (output_arc_at n.wires o) ∷ []
 
 -- marks are taken where an arc lies below a drop, and all tuples that fit the columns of a stream
 pub record TakesArcs (n : Network) (x : Actor) (marks : ℕ → Bool) (fits : ℕ → List Value → Bool) : Type 0 where

@@ -7,7 +7,7 @@ use Rattle.sq_place.specs.declared.DropAt.TheVariants as at
 use Rattle.sq_place.specs.Places.{stream_on}
 use Rattle.sq_net.specs.declared.Network.{Network}
 use Rattle.sq_points.specs.Points.{points_of, drops_in}
-use Rattle.sq_below.specs.Actors.{Actor, Sources, Box, Shedder, Shower, giver, arc_from}
+use Rattle.sq_below.specs.Actors.{Actor, Sources, Box, WindowDrop, OutputGate, giver, arc_from}
 
 -- the first output, behind the boxes and the drops
 abbrev pub first_output : Network → ℕ
@@ -20,23 +20,23 @@ ops_of n = first_output n + length n.wires.outputs
 abbrev pub number_of : Network → Actor → ℕ
 number_of n Sources = ops_of n
 number_of n (Box b) = b
-number_of n (Shedder w) = length n.boxes + w
-number_of n (Shower o) = first_output n + o
+number_of n (WindowDrop w) = length n.boxes + w
+number_of n (OutputGate o) = first_output n + o
 
 -- the actor of a number
 abbrev pub actor_at : Network → ℕ → Actor
 actor_at n k =
     if nat_lt k (length n.boxes) then Box k
-    else if nat_lt k (first_output n) then Shedder (k - length n.boxes)
-    else if nat_lt k (ops_of n) then Shower (k - first_output n)
+    else if nat_lt k (first_output n) then WindowDrop (k - length n.boxes)
+    else if nat_lt k (ops_of n) then OutputGate (k - first_output n)
     else Sources
 
 -- the actor is there
 abbrev pub IsThere : Network → Actor → Type 0
 IsThere n Sources = Unit {0}
 IsThere n (Box b) = b < length n.boxes
-IsThere n (Shedder w) = w < drops_in n
-IsThere n (Shower o) = o < length n.wires.outputs
+IsThere n (WindowDrop w) = w < drops_in n
+IsThere n (OutputGate o) = o < length n.wires.outputs
 
 -- the stream at a place
 abbrev pub place_stream : Network → DropAt → ℕ
@@ -44,12 +44,12 @@ place_stream n (at.Stream s) = s
 place_stream n (at.Arc a) = stream_on n.wires a
 
 -- what an actor reads, by port: the actor and the port that give it. A drop reads the stream of its place from its own giver
-abbrev pub shedder_reads : Network → Option DropPoint → List (Actor × ℕ)
-shedder_reads n None = []
-shedder_reads n (Some p) = giver (producer_of n.wires (place_stream n p.at)) ∷ []
+abbrev pub window_drop_reads : Network → Option DropPoint → List (Actor × ℕ)
+window_drop_reads n None = []
+window_drop_reads n (Some p) = giver (producer_of n.wires (place_stream n p.at)) ∷ []
 
 abbrev pub reads_of : Network → Actor → List (Actor × ℕ)
 reads_of n Sources = []
 reads_of n (Box b) = map (arc_from n) (input_arcs_of n.wires b)
-reads_of n (Shedder w) = shedder_reads n (slice_get (points_of n) w)
-reads_of n (Shower o) = arc_from n (output_arc_at n.wires o) ∷ []
+reads_of n (WindowDrop w) = window_drop_reads n (slice_get (points_of n) w)
+reads_of n (OutputGate o) = arc_from n (output_arc_at n.wires o) ∷ []

@@ -4,7 +4,7 @@ ghost use Rattle.std.specs.Prelude.{◌≡◌, ◌<◌, ℕ, IfOk, OnOk, length}
 ghost use Rattle.sq_net.specs.SoundNetworks.{IsSound};
 ghost use Rattle.sq_points.specs.Points.{points_of};
 ghost use Rattle.sq_points.specs.Limits.{KeepsDropLimits};
-ghost use Rattle.sq_below.specs.Actors.{Box, Shedder, Shower};
+ghost use Rattle.sq_below.specs.Actors.{Box, WindowDrop, OutputGate};
 ghost use Rattle.sq_start.specs.Numbers.{ops_of, first_output};
 ghost use Rattle.sq_start.specs.NewOperators.{IsStarted, AreStarted};
 
@@ -35,7 +35,7 @@ fn new_drop(n: &Network, points: &[DropPoint], w: u32, seed: u64) -> Actor
     requires limits { KeepsDropLimits n.now }
     requires points { points.now ≡ points_of n.now }
     requires there { w < length points.now }
-    ensures { IsStarted n.now seed (Shedder w) result }
+    ensures { IsStarted n.now seed (WindowDrop w) result }
 {
     early_drop_is_sound();
     drop_actor(w, &points[w as usize], n.epoch, seed)
@@ -46,7 +46,7 @@ fn new_output(n: &Network, points: &[DropPoint], o: u32) -> Actor
     requires sound { IsSound n.now }
     requires limits { KeepsDropLimits n.now }
     requires points { points.now ≡ points_of n.now }
-    ensures { (seed : ℕ) → IsStarted n.now seed (Shower o) result }
+    ensures { (seed : ℕ) → IsStarted n.now seed (OutputGate o) result }
 {
     early_drop_is_sound();
     gate_actor(length_above(points, o))

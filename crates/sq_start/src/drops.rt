@@ -2,7 +2,7 @@
 
 ghost use Rattle.std.specs.Prelude.{◌≡◌, ◌<◌, ◌≤◌, ◌^◌, ◌*◌, ◌==◌, ℕ, true, List, [], Option};
 ghost use Rattle.sq_value.specs.declared.Value.{Value};
-ghost use Rattle.sq_oper.specs.declared.tally.Moment.{Moment};
+ghost use Rattle.sq_oper.specs.declared.tally.Position.{Position};
 ghost use Rattle.std.specs.List.{AllByRecursion};
 ghost use Rattle.sq_oper.specs.Entries.{Entry};
 ghost use Rattle.sq_oper.specs.Order.{IsFuture};
@@ -21,13 +21,13 @@ pub fn drop_actor(w: u32, p: &DropPoint, epoch: u64, seed: u64) -> Actor
     requires keep { p.now.keep < 4096 * p.now.length }
     requires epoch { 1 ≤ epoch }
     ensures starts { DropStarts w p.now epoch seed (⟦<Actor as Operator>⟧.takes_marks result) (⟦<Actor as Operator>⟧.fits result) (⟦<Actor as Operator>⟧.rest result) (⟦<Actor as Operator>⟧.decides result) }
-    ensures owns { (table : ℕ → ℕ → ℕ) (future : List Entry) → IsFuture (⟦<Actor as Operator>⟧.takes_marks result) (⟦<Actor as Operator>⟧.fits result) Moment.Start future
+    ensures owns { (table : ℕ → ℕ → ℕ) (future : List Entry) → IsFuture (⟦<Actor as Operator>⟧.takes_marks result) (⟦<Actor as Operator>⟧.fits result) Position.Start future
         → AllByRecursion (λ d. d.drop ≡ w) (⟦<Actor as Operator>⟧.decides result table future) }
     ensures fits { (port : ℕ) (fields : List Value) → ⟦<Actor as Operator>⟧.fits result port fields ≡ (port == 0) }
     ensures none { (table : ℕ → ℕ → ℕ) (port : ℕ) → ⟦<Actor as Operator>⟧.rest result table [] port ≡ [] }
     ensures none_lost { (future : List Entry) → ⟦<Actor as Operator>⟧.lost result future ≡ 0 }
     ensures reads { (of : ℕ) → ⟦<Actor as Operator>⟧.reads result of ≡ (of == epoch) }
-    ensures start { (⟦<Actor as Operator>⟧.place result ≡ Moment.Start) × (⟦<Actor as Operator>⟧.taken result ≡ 0) }
+    ensures start { (⟦<Actor as Operator>⟧.place result ≡ Position.Start) × (⟦<Actor as Operator>⟧.taken result ≡ 0) }
     ensures valid { ⟦<Actor as Operator>⟧.valid result × (⟦<Actor as Operator>⟧.running result ≡ true) }
 {
     early_drop_is_sound();
@@ -44,7 +44,7 @@ pub fn gate_actor(length: Option<u64>) -> Actor
     ensures none { (table : ℕ → ℕ → ℕ) (port : ℕ) → ⟦<Actor as Operator>⟧.rest result table [] port ≡ [] }
     ensures none_lost { (future : List Entry) → ⟦<Actor as Operator>⟧.lost result future ≡ 0 }
     ensures reads { (epoch : ℕ) → ⟦<Actor as Operator>⟧.reads result epoch ≡ true }
-    ensures start { (⟦<Actor as Operator>⟧.place result ≡ Moment.Start) × (⟦<Actor as Operator>⟧.taken result ≡ 0) }
+    ensures start { (⟦<Actor as Operator>⟧.place result ≡ Position.Start) × (⟦<Actor as Operator>⟧.taken result ≡ 0) }
     ensures valid { ⟦<Actor as Operator>⟧.valid result × (⟦<Actor as Operator>⟧.running result ≡ true) }
 {
     early_drop_is_sound();

@@ -5,7 +5,7 @@ use Rattle.std.specs.Fmt.{digits}
 use Rattle.sq_net.specs.declared.NetErr.TheVariants as net
 use Rattle.sq_teller.specs.declared.KeyWhy.TheVariants as why
 use Rattle.sq_teller.specs.declared.Program.TheVariants as program
-use Rattle.sq_teller.specs.declared.Status.TheVariants as status
+use Rattle.sq_teller.specs.declared.Ending.TheVariants as status
 use Rattle.sq_teller.specs.Messages.{ending_message}
 
 message_key : ending_message program.Keys (status.BadKey 2 why.Twice) ≡ codes "aurora_keys: key 2: Twice\n"

@@ -6,8 +6,8 @@ use Rattle.sq_teller.specs.declared.KeyWhy.{KeyWhy}
 use Rattle.sq_teller.specs.declared.KeyWhy.TheVariants as why
 use Rattle.sq_teller.specs.declared.Program.{Program}
 use Rattle.sq_teller.specs.declared.Program.TheVariants as program
-use Rattle.sq_teller.specs.declared.Status.{Status}
-use Rattle.sq_teller.specs.declared.Status.TheVariants as status
+use Rattle.sq_teller.specs.declared.Ending.{Ending}
+use Rattle.sq_teller.specs.declared.Ending.TheVariants as status
 
 abbrev pub name_text : Program → List ℕ
 name_text program.Keys = codes "aurora_keys"
@@ -23,7 +23,7 @@ key_why_text why.Twice = codes "Twice"
 key_why_text why.NoField = codes "NoField"
 
 -- the line of a status; Ok and Lost have none
-abbrev pub ending_message : Program → Status → List ℕ
+abbrev pub ending_message : Program → Ending → List ℕ
 ending_message p status.Ok = []
 ending_message p status.Lost = []
 ending_message p status.Usage = name_text p ++ (codes ": usage: " ++ (usage_text p ++ codes "\n"))
@@ -35,7 +35,7 @@ ending_message p status.Memory = name_text p ++ codes ": out of memory\n"
 ending_message p (status.BadKey key w) = name_text p ++ (codes ": key " ++ (decimal key ++ (codes ": " ++ (key_why_text w ++ codes "\n"))))
 
 -- the number with which a program ends
-abbrev pub ending_code : Status → ℕ
+abbrev pub ending_code : Ending → ℕ
 ending_code status.Ok = 0
 ending_code status.Lost = 1
 ending_code status.Usage = 2

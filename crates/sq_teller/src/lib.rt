@@ -12,14 +12,12 @@ ghost use Rattle.sq_teller.specs.Messages.{ending_code};
 mod boxes;
 mod messages;
 mod running;
-mod words;
 
 pub use boxes::put_box_line;
 pub use messages::told;
 pub use running::{Inquiry, answered};
 use sq_net::NetErr;
 use sq_value::Name;
-pub use words::may_name;
 
 /// The programs.
 #[derive(Clone, Copy, PartialEq, Eq, Drop)]
@@ -28,13 +26,6 @@ pub enum Program {
     Keys,
     /// `aurora_slices`.
     Slices,
-}
-
-/// Why words ask for nothing.
-#[derive(Clone, Copy, PartialEq, Eq, Drop)]
-pub enum WordsErr {
-    Usage,
-    Memory,
 }
 
 /// Why a pair names no key.
@@ -50,7 +41,7 @@ pub enum KeyWhy {
 
 /// How a call ended.
 #[derive(Drop)]
-pub enum Status {
+pub enum Ending {
     /// All outputs can be had from parts.
     Ok,
     /// An output can't.
@@ -71,21 +62,21 @@ pub enum Status {
     BadKey { key: u32, why: KeyWhy },
 }
 
-impl Status {
+impl Ending {
     /// The status with which the program ends.
     pub fn code(&self) -> u8
         ensures { result ≡ ending_code self.now }
     {
         match self {
-            Status::Ok => 0,
-            Status::Lost => 1,
-            Status::Usage => 2,
-            Status::BadNetwork(_) => 3,
-            Status::FolderFault { .. } => 7,
-            Status::SinkFault => 10,
-            Status::TooLong { .. } => 11,
-            Status::Memory => 12,
-            Status::BadKey { .. } => 18,
+            Ending::Ok => 0,
+            Ending::Lost => 1,
+            Ending::Usage => 2,
+            Ending::BadNetwork(_) => 3,
+            Ending::FolderFault { .. } => 7,
+            Ending::SinkFault => 10,
+            Ending::TooLong { .. } => 11,
+            Ending::Memory => 12,
+            Ending::BadKey { .. } => 18,
         }
     }
 }

@@ -6,7 +6,7 @@ ghost use Rattle.sq_words.specs.Lists.{IsPrefixOf};
 ghost use Rattle.sq_teller.specs.Ends.{IsEndingTold, TellsEnding};
 ghost use Rattle.sq_teller.specs.Messages.{key_why_text, ending_message, name_text, usage_text};
 
-use crate::{KeyWhy, Program, Status};
+use crate::{Ending, KeyWhy, Program};
 use sq_net::NetErr;
 use sq_outside::{Sink, write_all};
 use sq_refusal::refusal_text;
@@ -42,7 +42,7 @@ fn key_why_text(why: KeyWhy) -> &'static str
 
 // The lines that take no memory.
 fn failed_line(program: Program) -> &'static str
-    ensures { result.now ≡ ending_message program Status.SinkFault }
+    ensures { result.now ≡ ending_message program Ending.SinkFault }
 {
     match program {
         Program::Keys => "aurora_keys: output failed\n",
@@ -51,7 +51,7 @@ fn failed_line(program: Program) -> &'static str
 }
 
 fn memory_line(program: Program) -> &'static str
-    ensures { result.now ≡ ending_message program Status.Memory }
+    ensures { result.now ≡ ending_message program Ending.Memory }
 {
     match program {
         Program::Keys => "aurora_keys: out of memory\n",
@@ -60,7 +60,7 @@ fn memory_line(program: Program) -> &'static str
 }
 
 fn network_message(alloc: Global, program: Program, e: NetErr) -> Result<String, AllocError>
-    ensures { IfOk result (λ text. string_bytes text ≡ ending_message program (Status.BadNetwork e)) }
+    ensures { IfOk result (λ text. string_bytes text ≡ ending_message program (Ending.BadNetwork e)) }
 {
     let name = name_text(program);
     let refusal = refusal_text(alloc, e)?;
@@ -69,28 +69,28 @@ fn network_message(alloc: Global, program: Program, e: NetErr) -> Result<String,
 }
 
 // The line of a status.
-fn ending_message(alloc: Global, program: Program, status: &Status) -> Result<String, AllocError>
+fn ending_message(alloc: Global, program: Program, status: &Ending) -> Result<String, AllocError>
     ensures { IfOk result (λ text. string_bytes text ≡ ending_message program status.now) }
 {
     let name = name_text(program);
     match status {
-        Status::Ok | Status::Lost => String::from_str(alloc, ""),
-        Status::Usage => {
+        Ending::Ok | Ending::Lost => String::from_str(alloc, ""),
+        Ending::Usage => {
             let usage = usage_text(program);
             format!(in alloc; "{name}: usage: {usage}\n")
         }
-        Status::BadNetwork(e) => network_message(alloc, program, *e),
-        Status::FolderFault { name: file } => {
+        Ending::BadNetwork(e) => network_message(alloc, program, *e),
+        Ending::FolderFault { name: file } => {
             let file = file.as_str();
             format!(in alloc; "{name}: cannot read {file}\n")
         }
-        Status::SinkFault => String::from_str(alloc, failed_line(program)),
-        Status::TooLong { name: file } => {
+        Ending::SinkFault => String::from_str(alloc, failed_line(program)),
+        Ending::TooLong { name: file } => {
             let file = file.as_str();
             format!(in alloc; "{name}: file too long: {file}\n")
         }
-        Status::Memory => String::from_str(alloc, memory_line(program)),
-        Status::BadKey { key, why } => {
+        Ending::Memory => String::from_str(alloc, memory_line(program)),
+        Ending::BadKey { key, why } => {
             let why = key_why_text(*why);
             format!(in alloc; "{name}: key {key}: {why}\n")
         }
@@ -107,17 +107,17 @@ fn say<E: Sink>(err: &mut E, text: &[u8])
 
 /// Tells how a call ended, and how it ends with that: Ok and Lost have no line, and where there is no memory for the line, memory
 /// ran out.
-pub fn told<E: Sink>(alloc: Global, program: Program, status: Status, err: &mut E) -> Status
+pub fn told<E: Sink>(alloc: Global, program: Program, status: Ending, err: &mut E) -> Ending
     ensures status { IsEndingTold status result }
     ensures told { AppendsSuch (E.written err.old) (E.written err.new) (TellsEnding program (E.faults err.old) (E.faults err.new) result) }
     ensures later { E.faults err.old ≤ E.faults err.new }
 {
     match status {
-        Status::Ok => Status::Ok,
-        Status::Lost => Status::Lost,
-        Status::SinkFault => {
+        Ending::Ok => Ending::Ok,
+        Ending::Lost => Ending::Lost,
+        Ending::SinkFault => {
             say(err, failed_line(program).as_bytes());
-            Status::SinkFault
+            Ending::SinkFault
         }
         status => match ending_message(alloc, program, &status) {
             Ok(text) => {
@@ -126,7 +126,7 @@ pub fn told<E: Sink>(alloc: Global, program: Program, status: Status, err: &mut 
             }
             Err(_) => {
                 say(err, memory_line(program).as_bytes());
-                Status::Memory
+                Ending::Memory
             }
         },
     }

@@ -1,10 +1,10 @@
 // What is asked about a network, answered over a folder and a sink.
 ghost use Rattle.std.specs.Prelude.{◌≡◌, ◌≢◌, ◌≤◌, ℕ, List, IfErr, IfOk, OnErr, OnOk};
 ghost use Rattle.sq_net.specs.declared.NetErr.TheVariants as net;
-ghost use Rattle.sq_teller.specs.Ends.{EndsAsked, IsReadAs, IsUnreadAs, WritesText};
+ghost use Rattle.sq_teller.specs.Ends.{EndsAsked, IsReadAs, IsUnreadAs, WritesText, around};
 ghost use Rattle.sq_teller.specs.Replies.{IsRefused, Reply, Says, lost_status};
 
-use crate::Status;
+use crate::Ending;
 use sq_outside::{Failed, Folder, FolderErr, Sink, write_all};
 use sq_value::{Name, copy_name};
 use std::alloc::Global;
@@ -28,53 +28,53 @@ pub trait Inquiry {
         ensures { result.now ≡ file self.now };
 
     /// A text, and whether an output is lost; or why there is none.
-    fn answer(&self, alloc: Global, bytes: &[u8]) -> Result<(Vec<u8>, bool), Status>
+    fn answer(&self, alloc: Global, bytes: &[u8]) -> Result<(Vec<u8>, bool), Ending>
         requires { can_answer self.now }
         ensures says { IfOk result (λ r. reply self.now bytes.now ≡ Says r.0.items r.1) }
         ensures refused { IfErr result (λ s. IsRefused (reply self.now bytes.now) s) }
-        ensures no_memory { IfErr result (λ s. s ≢ Status.BadNetwork net.Memory) };
+        ensures no_memory { IfErr result (λ s. s ≢ Ending.BadNetwork net.Memory) };
 }
 
 // The bytes of the network file, or the status of a call that doesn't get them.
-fn read_file<F: Folder>(alloc: Global, folder: &mut F, name: &Name) -> Result<Vec<u8>, Status>
+fn read_file<F: Folder>(alloc: Global, folder: &mut F, name: &Name) -> Result<Vec<u8>, Ending>
     ensures read { IfOk result (λ bytes. IsReadAs (F.files folder.old) (F.read folder.old) (F.read folder.new) name.now bytes.items) }
     ensures unread { IfErr result (λ s. IsUnreadAs (F.files folder.old) (F.faults folder.old) (F.faults folder.new) (F.taken folder.old) (F.taken folder.new) name.now s) }
     ensures no_fault { OnOk result (F.faults folder.new ≡ F.faults folder.old) }
     ensures refuses { OnErr result (F.read folder.new ≡ F.read folder.old) }
-    ensures no_memory { IfErr result (λ s. s ≢ Status.BadNetwork net.Memory) }
+    ensures no_memory { IfErr result (λ s. s ≢ Ending.BadNetwork net.Memory) }
     ensures files { F.files folder.new ≡ F.files folder.old }
     ensures later { (F.faults folder.old ≤ F.faults folder.new) × (F.taken folder.old ≤ F.taken folder.new) }
 {
     match folder.read_whole(alloc, name.as_str(), NETWORK_LIMIT) {
         Ok(bytes) => Ok(bytes),
-        Err(FolderErr::Memory) => Err(Status::Memory),
+        Err(FolderErr::Memory) => Err(Ending::Memory),
         Err(FolderErr::Failed) => match copy_name(name) {
-            Ok(name) => Err(Status::FolderFault { name }),
-            Err(_) => Err(Status::Memory),
+            Ok(name) => Err(Ending::FolderFault { name }),
+            Err(_) => Err(Ending::Memory),
         },
         Err(FolderErr::TooLong) => match copy_name(name) {
-            Ok(name) => Err(Status::TooLong { name }),
-            Err(_) => Err(Status::Memory),
+            Ok(name) => Err(Ending::TooLong { name }),
+            Err(_) => Err(Ending::Memory),
         },
     }
 }
 
 // The status of a text.
-fn lost_status(lost: bool) -> Status
+fn lost_status(lost: bool) -> Ending
     ensures { result ≡ lost_status lost }
 {
-    if lost { Status::Lost } else { Status::Ok }
+    if lost { Ending::Lost } else { Ending::Ok }
 }
 
 // Writes the text: all of it at once, when it is whole.
-fn write_text<S: Sink>(text: &[u8], lost: bool, out: &mut S) -> Status
+fn write_text<S: Sink>(text: &[u8], lost: bool, out: &mut S) -> Ending
     ensures ends { WritesText text.now lost (S.written out.old) (S.written out.new) (S.faults out.old) (S.faults out.new) result }
-    ensures no_memory { result ≢ Status.BadNetwork net.Memory }
+    ensures no_memory { result ≢ Ending.BadNetwork net.Memory }
     ensures later { S.faults out.old ≤ S.faults out.new }
 {
     match write_all(out, text) {
         Ok(()) => lost_status(lost),
-        Err(Failed) => Status::SinkFault,
+        Err(Failed) => Ending::SinkFault,
     }
 }
 
@@ -84,23 +84,10 @@ pub fn answered<Q: Inquiry, F: Folder, S: Sink>(
     asked: &Q,
     folder: &mut F,
     out: &mut S,
-) -> Status
+) -> Ending
     requires { Q.can_answer asked.now }
-    ensures ends { EndsAsked (Q.file asked.now) (Q.reply asked.now) (record {
-      told = F.files folder.old;
-      folder_before = F.faults folder.old;
-      folder_now = F.faults folder.new;
-      taken_before = F.taken folder.old;
-      taken_now = F.taken folder.new;
-      read_before = F.read folder.old;
-      read_now = F.read folder.new;
-      out_before = S.written out.old;
-      out_now = S.written out.new;
-      sink_before = S.faults out.old;
-      sink_now = S.faults out.new;
-    })
-        result }
-    ensures no_memory { result ≢ Status.BadNetwork net.Memory }
+    ensures ends { EndsAsked (Q.file asked.now) (Q.reply asked.now) (around F.Folder folder.old folder.new S.Sink out.old out.new) result }
+    ensures no_memory { result ≢ Ending.BadNetwork net.Memory }
     ensures files { F.files folder.new ≡ F.files folder.old }
     ensures later { (F.faults folder.old ≤ F.faults folder.new) × (F.taken folder.old ≤ F.taken folder.new) × (S.faults out.old ≤ S.faults out.new) }
 {

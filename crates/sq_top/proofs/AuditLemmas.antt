@@ -1,6 +1,6 @@
 -- How an audit ends.
-use Rattle.std.proofs.Common.{◌≡◌, ◌≢◌, ◌⊎◌, inl, inr, ℕ, true, false, List, refl, ap, sym, ◌∙◌, subst, arith, Some}
-use Rattle.sq_outside.specs.Sinks.{AppendsPrefix, appended, AppendsSuch}
+use Rattle.std.proofs.Common.{◌≡◌, ◌⊎◌, inl, inr, ℕ, true, false, List, refl, ap, sym, ◌∙◌, subst, arith, Some}
+use Rattle.sq_outside.specs.Sinks.{appended, AppendsSuch}
 use Rattle.sq_command.specs.declared.Command.TheVariants as command
 use Rattle.sq_status.specs.declared.Status.{Status}
 use Rattle.sq_status.specs.declared.Status.TheVariants as status
@@ -11,14 +11,13 @@ use Rattle.sq_work.specs.Reads.{ScriptLeads}
 use Rattle.sq_top.specs.Ends.{Ends}
 use Rattle.sq_top.specs.Outside.{Outside}
 use Rattle.sq_top.specs.Texts.{IsPrefixOfDue, IsWholeOf, verdict_text, work_for}
-use Rattle.sq_drive.specs.Writing.{IsLost}
-use Rattle.sq_drive.proofs.DrivingLemmas.{not_too_much}
+use Rattle.sq_drive.specs.Writing.{IsLost, LosesWhole}
 use Rattle.sq_top.proofs.EndLemmas.{answered_cut, answered_ok, appends_all, appends_begun}
 use Rattle.sq_top.proofs.ReadsLemmas.{HoldsFor, left_holds}
 use Rattle.sq_work.proofs.AuditLemmas.{is_audit}
 use Rattle.sq_status.specs.StatusKinds.{is_refusal, is_plain_end}
 use Rattle.sq_work.specs.Refusals.{IsRefusedAt, IsStopped}
-use Rattle.sq_drive.proofs.StopLemmas.{lost_cut, lost_stop, lost_unchanged, lost_garbled}
+use Rattle.sq_top.proofs.StopLemmas.{lost_early}
 
 module _ (words : List (List ℕ)) (net text : List ℕ) (asked : command_in words ≡ Some (command.Audit net text)) where
   no_engine : runs_engine (command_in words) ≡ false
@@ -59,18 +58,12 @@ module _ (words : List (List ℕ)) (net text : List ℕ) (asked : command_in wor
   no_fault s (inl memory) is = let no : status.Memory ≡ status.DiskFault = sym memory ∙ is in cc
   no_fault s (inr (sink, rose)) is = let no : status.SinkFault ≡ status.DiskFault = sym sink ∙ is in cc
 
-  pub audited_cut : (s : Status) → IsLost before.output.faults after.output.faults s → AppendsPrefix before.output.written after.output.written (verdict_text r) → (s ≢ status.SinkFault → after.output.written ≡ before.output.written)
-      → Ends words before after s source
-  audited_cut s lost part alone =
-      answered_cut words before after r source (is_audit words net text asked) came faultless s (record {
-        part = λ told. (
-          subst (λ c. AppendsSuch before.output.written after.output.written (IsPrefixOfDue c r s)) (sym asked) (appends_begun (verdict_text r) before.output.written after.output.written s part alone),
-          omega (arith, still, no_work),
-        );
-        cut = lost_cut before.output.faults before.output.faults after.output.faults s (omega arith) lost;
-        stopped = lost_stop _ before.disk.log after.disk.log before.disk.faults after.disk.faults before.output.faults after.output.faults s lost;
-        unchanged = λ is-honest. lost_unchanged before.output.faults after.output.faults s lost;
-        garbled = λ told. lost_garbled before.output.faults after.output.faults s lost;
-        too_much = λ told. not_too_much _ before.output.faults after.output.faults s lost;
-      })
+  pub audited_cut : (s : Status) → LosesWhole before.output after.output (verdict_text r) s → Ends words before after s source
+  audited_cut s loses =
+      let lost = loses.part.lost in
+      answered_cut words before after r source (is_audit words net text asked) came faultless s
+      (lost_early (command_in words) r before after s lost (λ told. (
+        subst (λ c. AppendsSuch before.output.written after.output.written (IsPrefixOfDue c r s)) (sym asked) (appends_begun (verdict_text r) before.output.written after.output.written s loses.part.begun loses.alone),
+        omega (arith, still, no_work),
+      )))
       (λ fault. absurd (no_fault s lost fault))

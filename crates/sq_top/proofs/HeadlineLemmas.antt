@@ -1,5 +1,5 @@
 -- A whole text of a run keeps the headline.
-use Rattle.std.proofs.Common.{◌≡◌, ◌≢◌, ◌⊎◌, inl, inr, ℕ, zero, suc, ◌+◌, ◌<◌, ◌/◌, true, not, List, [], ◌∷◌, length, map, refl, ap, sym, ◌∙◌, subst, arith, Option, None, Some}
+use Rattle.std.proofs.Common.{◌≡◌, ◌≢◌, ◌⊎◌, inl, inr, ℕ, zero, suc, ◌<◌, ◌/◌, true, not, List, [], ◌∷◌, length, map, refl, ap, sym, ◌∙◌, subst, arith, Option, None, Some}
 use Rattle.std.specs.Prelude.{slice_get}
 use Rattle.std.specs.Fmt.{decimal}
 use Rattle.std.specs.List.{filter, list_any, zip}
@@ -10,7 +10,7 @@ use Rattle.sq_value.specs.declared.Tuple.{Tuple}
 use Rattle.sq_words.specs.Lists.{contains_number, numbers_to, same_bytes}
 use Rattle.sq_words.proofs.Lists.{has_item, map_map, same_bytes_itself}
 use Rattle.sq_graph.specs.Wires.{input_arcs_of}
-use Rattle.sq_lines.specs.Classes.{Shown, Dropped, Planned, Ended, of_class}
+use Rattle.sq_lines.specs.Classes.{Shown, Dropped, Planned, Ended}
 use Rattle.sq_lines.specs.LineTexts.{drop_line, output_line}
 use Rattle.sq_place.specs.declared.DropPoint.{DropPoint}
 use Rattle.sq_net.specs.declared.Output.{Output}
@@ -20,7 +20,6 @@ use Rattle.sq_points.specs.Above.{drop_above_output}
 use Rattle.sq_points.specs.Points.{drops_in, points_of}
 use Rattle.sq_model.specs.KeptTuples.{kept_of}
 use Rattle.sq_model.specs.Shedding.{record_of, shown}
-use Rattle.sq_model.specs.Shedding as model
 use Rattle.sq_tap.specs.Parts.{full_output}
 use Rattle.sq_starts.proofs.Starts.{times_start}
 use Rattle.sq_start.specs.Nets.{decision_on, drop_decisions}

@@ -1,5 +1,5 @@
 -- Histories: the lines of a run that has shown its whole answer, in whatever order, are an order of writing with the end lines behind.
-use Rattle.std.proofs.Common.{◌≡◌, ◌⊎◌, inl, inr, ℕ, ◌<◌, ◌^◌, arith, Bool, true, false, not, ◌&&◌, List, [], ◌∷◌, ◌++◌, length, refl, ap, ap₂, sym, ◌∙◌, subst, append-nil, Some}
+use Rattle.std.proofs.Common.{◌≡◌, ◌⊎◌, inl, inr, ℕ, ◌<◌, ◌^◌, arith, Bool, true, false, not, List, [], ◌∷◌, ◌++◌, length, refl, ap, ap₂, sym, ◌∙◌, subst, append-nil, Some}
 use Rattle.std.specs.Prelude.{◌==◌, map, if◌then◌else◌, slice_get}
 use Rattle.std.specs.List.{AllByRecursion, filter}
 use Rattle.std.proofs.lemmas.Bool.{eqb-true, eqb-false, false_from_ne_true}
@@ -86,7 +86,7 @@ module _ (n : Network) (sound : IsSound n) (a : Answer) (ended : List (List ℕ)
   drop_classed : (d : Decision) → d.drop < drops_in n → is_classed due (event_line n (Decided d)) ≡ true
   drop_classed d low =
       let small : d.drop < 2 ^ 64 = omega (arith, low, few) in
-      classed_dropped due told d.drop (event_line n (Decided d)) (number_listed a d.drop (drops_in n) low) (line_dropped d.drop d.batch d.level small).1
+      classed_dropped due told (event_line n (Decided d)) d.drop (number_listed a d.drop (drops_in n) low) (line_dropped d.drop d.batch d.level small).1
 
   -- and one that is a plan
   module _ (epoch load capacity saved : ℕ) (fits : Bool) where

@@ -1,5 +1,5 @@
 -- Lines that are written in an order in which each is the next of its class: what their text has of each class.
-use Rattle.std.proofs.Common.{◌≡◌, ◌≢◌, ◌⊎◌, inl, inr, ℕ, Bool, true, false, not, ◌&&◌, List, [], ◌∷◌, ◌++◌, length, drop, refl, ap, sym, ◌∙◌, subst, arith, append_assoc, append-nil, Some}
+use Rattle.std.proofs.Common.{◌≡◌, ◌≢◌, ◌⊎◌, inl, inr, ℕ, Bool, true, false, not, List, [], ◌∷◌, ◌++◌, length, drop, refl, ap, sym, ◌∙◌, subst, arith, append_assoc, append-nil, Some}
 use Rattle.std.specs.Prelude.{if◌then◌else◌, slice_get, IsSomeAnd}
 use Rattle.std.specs.List.{AllByRecursion, filter, list_all}
 use Rattle.std.proofs.lemmas.List.{length-append, take-append-drop}
@@ -159,15 +159,6 @@ order_front d before (x ∷ xs) ys order = (order.0, order_front d (before ++ x 
 pub order_back : (d : Due) (before xs ys : List (List ℕ)) → EachIsNext d before (xs ++ ys) → EachIsNext d (before ++ xs) ys
 order_back d before [] ys order = subst (λ b. EachIsNext d b ys) (sym (append-nil before)) order
 order_back d before (x ∷ xs) ys order = subst (λ b. EachIsNext d b ys) (append_assoc before (x ∷ []) xs) (order_back d (before ++ x ∷ []) xs ys order.1)
-
-pub order_both : (d : Due) (before xs ys : List (List ℕ)) → EachIsNext d before xs → EachIsNext d (before ++ xs) ys → EachIsNext d before (xs ++ ys)
-order_both d before [] ys first second = subst (λ b. EachIsNext d b ys) (append-nil before) second
-order_both d before (x ∷ xs) ys first second =
-    (first.0, order_both d (before ++ x ∷ []) xs ys first.1 (subst (λ b. EachIsNext d b ys) (sym (append_assoc before (x ∷ []) xs)) second))
-
--- the step of a writer: an order goes on with the next line of a class
-pub order_more : (d : Due) (ls : List (List ℕ)) (l : List ℕ) (c : Class) → IsLineOrder d ls → IsNextOf d ls l c → IsLineOrder d (ls ++ l ∷ [])
-order_more d ls l c order next = order_both d [] ls (l ∷ []) order ((c, next), tt)
 
 -- a text that begins the text of such lines
 module _ (d : Due) (s : TellsClasses d) (ls : List (List ℕ)) (order : IsLineOrder d ls) (text : List ℕ) (cut : Cut ls text) where

@@ -1,6 +1,6 @@
 -- How the script of a run goes on by what is read, and what each step of it keeps.
 use Rattle.std.proofs.Common.{◌≡◌, ℕ, true, false, List, [], ◌∷◌, ◌++◌, length, refl, sym, ◌∙◌, subst, Option, None, Some}
-use Rattle.std.specs.Prelude.{Result, Ok, Err, Bool, ◌||◌}
+use Rattle.std.specs.Prelude.{Result, Ok, Err, Bool}
 use Rattle.sq_value.specs.declared.Tuple.{Tuple}
 use Rattle.sq_outside.specs.Folders.{Files}
 use Rattle.sq_net.specs.declared.NetErr.{NetErr}

@@ -1,14 +1,10 @@
 -- What a run of what was accepted has done where it ends, for the commands that ask for it.
 use Rattle.std.proofs.Common.{◌≡◌, ℕ, ◌+◌, ◌≤◌, ◌^◌, Bool, true, false, List, [], ap, ap₂, sym, ◌∙◌, subst, refl, Option, None, Some}
-use Rattle.std.specs.Prelude.{IsSome, if◌then◌else◌, Result, Ok, Err, OnErr, IfErr}
+use Rattle.std.specs.Prelude.{IsSome, if◌then◌else◌}
 use Rattle.sq_outside.specs.Sinks.{AppendsSuch}
-use Rattle.sq_outside.specs.Disks.{Pages}
-use Rattle.sq_oper.specs.declared.outs.Event.{Event}
 use Rattle.sq_pool.specs.Trust.{IsLater, Tells, known}
 use Rattle.sq_pool.proofs.TrustLemmas.{honest-tells}
-use Rattle.sq_queue.specs.Faces.{frames}
 use Rattle.sq_core.specs.declared.engine.Engine.{Engine}
-use Rattle.sq_core.specs.Runs.{IsRun}
 use Rattle.sq_command.specs.declared.Command.{Command}
 use Rattle.sq_command.specs.declared.Command.TheVariants as command
 use Rattle.sq_command.specs.Commands.{runs_engine}
@@ -18,22 +14,23 @@ use Rattle.sq_status.specs.StatusKinds.{is_refusal}
 use Rattle.sq_work.specs.FolderStates.{FolderState}
 use Rattle.sq_work.specs.Scripts.{AcceptedReplay, plain_args}
 use Rattle.sq_drive.specs.Answers.{IsPrefixText, IsWholeText}
-use Rattle.sq_drive.specs.Driving.{IsCutShort, StoppedWith}
+use Rattle.sq_drive.specs.Driving.{IsHalted}
 use Rattle.sq_drive.specs.Due.{due_of, replayed, turns_in, work_in}
-use Rattle.sq_drive.specs.Failing.{CameTo, IsOfRun}
-use Rattle.sq_drive.specs.Stopping.{StopHasCause}
+use Rattle.sq_drive.specs.Failing.{CameTo, IsNewOf, IsOfRun}
 use Rattle.sq_drive.specs.Summaries.{summary_of}
 use Rattle.sq_drive.specs.Writing.{IsLost}
-use Rattle.sq_drive.proofs.DrivingLemmas.{not_too_much}
-use Rattle.sq_drive.proofs.StopLemmas.{lost_cut, lost_garbled, lost_stop, lost_unchanged, stop_map}
+use Rattle.sq_drive.specs.Turns.{DriveFails}
+use Rattle.sq_drive.proofs.StopLemmas.{stop_map}
 use Rattle.sq_top.specs.declared.running.Report.{Report}
 use Rattle.sq_top.specs.declared.running.Report.TheVariants as report
 use Rattle.sq_top.specs.Ends.{DoesAll, DoesPart, KnowsDisk}
-use Rattle.sq_top.specs.Outside.{DiskState, Outside, SinkState, outside}
+use Rattle.sq_drive.specs.States.{DiskState, SinkState}
+use Rattle.sq_top.specs.Outside.{Outside, outside}
 use Rattle.sq_top.specs.Running.{EndsEarly, IsReportedBy, WhoeverAsks}
 use Rattle.sq_top.specs.Texts.{BeginsSummary, IsPrefixOfDue, IsWholeOf, turns_for, work_for}
 use Rattle.sq_top.proofs.EndLemmas.{appends_map}
 use Rattle.sq_top.proofs.ReplayLemmas.{replay_waits}
+use Rattle.sq_top.proofs.StopLemmas.{lost_early}
 use Rattle.sq_top.proofs.SummaryLemmas.{summary_waits}
 
 -- it is a command that runs an engine
@@ -105,35 +102,28 @@ module _ (told : Report) (c : Option Command) (asked : IsReportedBy told c) (r :
       (appends_map before.output.written after.output.written (PartBy told r s) (IsPrefixOfDue c r s) (part_by told c asked r s) (text tells), subst (λ k. after.steps ≤ before.steps + k) work_is (steps tells))
 
   -- what was written is lost on its way out
-  pub run_lost : (s : Status) (mid : ℕ) → before.output.faults ≤ mid → IsLost mid after.output.faults s
+  pub run_lost : (s : Status) → IsLost before.output.faults after.output.faults s
       → (Tells (known after.disk.log) → AppendsSuch before.output.written after.output.written (PartBy told r s))
       → (Tells (known after.disk.log) → after.steps ≤ before.steps + work_in (replayed r)) → EndsEarly c r before after s
-  run_lost s mid le lost text steps = record {
-    part = run_part s text steps;
-    cut = lost_cut before.output.faults mid after.output.faults s le lost;
-    stopped = lost_stop _ before.disk.log after.disk.log before.disk.faults after.disk.faults mid after.output.faults s lost;
-    unchanged = λ is-honest. lost_unchanged mid after.output.faults s lost;
-    garbled = λ knows. lost_garbled mid after.output.faults s lost;
-    too_much = λ knows. not_too_much _ mid after.output.faults s lost;
-  }
+  run_lost s lost text steps = lost_early c r before after s lost (run_part s text steps)
 
-  -- the engine stopped, which was a new one
-  pub run_stopped : (s : Status) (begun : Engine) → ((pages : Option Pages) (steps : ℕ) → IsRun (replayed r) pages begun [] steps steps) → frames begun.engine.flow.queues ≡ r.frames
-      → IsCutShort before.output.faults after.output.faults s
-      → StopHasCause (CameTo before.disk.log after.disk.log begun s) before.disk.log after.disk.log before.disk.faults after.disk.faults s
-      → IsLater before.disk.log after.disk.log
-      → (Tells (known after.disk.log) → (history : List Event) × StoppedWith before.disk.log.honest (replayed r) history before.steps after.steps s)
-      → (Tells (known after.disk.log) → AppendsSuch before.output.written after.output.written (PartBy told r s)) → EndsEarly c r before after s
-  run_stopped s begun new framed cut cause later stop text = record {
-    part = run_part s text (λ tells. (stop tells).1.work);
-    cut = cut;
-    stopped = stop_map (CameTo before.disk.log after.disk.log begun s) (IsOfRun before.disk.log after.disk.log r s) before.disk.log after.disk.log before.disk.log after.disk.log
-        before.disk.faults after.disk.faults before.disk.faults after.disk.faults s (λ rose. rose) (λ queues e back. back)
-        (λ e came. record { begun = begun; new = new; framed = framed; came = came }) cause;
-    unchanged = λ is-honest. (stop (honest-tells after.disk.log (later.honest ∙ is-honest))).1.unchanged is-honest;
-    garbled = λ knows. (stop (knows runs)).1.garbled;
-    too_much = λ knows is. subst (λ k. 2 ^ 62 ≤ k) turns_are ((stop (knows runs)).1.too_much is);
-  }
+  -- the engine stopped, which was a new one, over an output of which these texts are told
+  pub run_stopped : (s : Status) (begun : Engine) → IsNewOf r begun → (was is : Option (List ℕ))
+      → DriveFails (record { engine = begun; log = before.disk.log; faults = before.disk.faults; steps = before.steps }) after.disk after.steps
+      (record { written = was; faults = before.output.faults }) (record { written = is; faults = after.output.faults }) s → IsLater before.disk.log after.disk.log
+      → (IsHalted before.disk.log.honest (replayed r) [] s was is before.steps after.steps → AppendsSuch before.output.written after.output.written (PartBy told r s)) → EndsEarly c r before after s
+  run_stopped s begun new was is fails later text =
+      let halt = λ (tells : Tells (known after.disk.log)). fails.halted (replayed r) [] before.steps tells (new.run (known before.disk.log) before.steps) in
+      record {
+        part = run_part s (λ tells. text (halt tells)) (λ tells. (halt tells).stopped.work);
+        cut = fails.cut;
+        stopped = stop_map (CameTo before.disk.log after.disk.log begun s) (IsOfRun before.disk.log after.disk.log r s) before.disk.log after.disk.log before.disk.log after.disk.log
+            before.disk.faults after.disk.faults before.disk.faults after.disk.faults s (λ rose. rose) (λ queues e back. back)
+            (λ e came. record { begun = begun; new = new; came = came }) fails.stopped;
+        unchanged = λ is-honest. (halt (honest-tells after.disk.log (later.honest ∙ is-honest))).stopped.unchanged is-honest;
+        garbled = λ knows. (halt (knows runs)).stopped.garbled;
+        too_much = λ knows is. subst (λ k. 2 ^ 62 ≤ k) turns_are ((halt (knows runs)).stopped.too_much is);
+      }
 
 -- nothing was written yet
 pub part_waits : (told : Report) (r : AcceptedReplay) → IsSound r.network → (before : Option (List ℕ)) (s : Status) → AppendsSuch before before (PartBy told r s)
@@ -155,7 +145,3 @@ never_refused told r disk disk' out out' steps steps' s early = (by told early).
     by : (told : Report) → EarlyFor told r disk disk' out out' steps steps' s → (c : Option Command) × EndsEarly c r (outside folder disk out out steps) (outside folder disk' out' out' steps') s
     by report.Lines early = (Some (command.Run (plain_args [])), early (Some (command.Run (plain_args []))) folder folder out out' tt)
     by (report.Summary number rows) early = (Some (command.Gen number rows), early (Some (command.Gen number rows)) folder folder out out' (refl, refl))
-
-pub if_err_all : {T E A : Type 0} {P R : E → Type 0} (Q : E → Type 0) (r : Result T E) → OnErr r A → IfErr r P → IfErr r R → ((e : E) → A → P e → R e → Q e) → IfErr r Q
-if_err_all Q (Ok x) a p q f = tt
-if_err_all Q (Err e) a p q f = f e a p q

@@ -1,12 +1,19 @@
 -- Why engines stop, and what is cut short.
-use Rattle.std.proofs.Common.{◌≡◌, ◌≢◌, ◌⊎◌, inl, inr, ℕ, ◌+◌, ◌^◌, ◌≤◌, true, false, refl, ap, sym, ◌∙◌, subst, ◌<◌}
+use Rattle.std.proofs.Common.{◌≡◌, ◌≢◌, ◌⊎◌, inl, inr, ℕ, true, false, refl, ap, sym, ◌∙◌, subst, Option}
 use Rattle.sq_outside.specs.Disks.{DiskLog}
 use Rattle.sq_core.specs.declared.engine.Engine.{Engine}
 use Rattle.sq_status.specs.declared.Status.{Status}
 use Rattle.sq_status.specs.declared.Status.TheVariants as status
 use Rattle.sq_drive.specs.Stopping.{StopHasCause}
 use Rattle.sq_status.specs.StatusKinds.{is_refusal, is_plain_end, is_changed, is_garbled}
-use Rattle.sq_drive.proofs.StopLemmas.{unchanged_garbled}
+use Rattle.sq_command.specs.declared.Command.{Command}
+use Rattle.sq_work.specs.Scripts.{AcceptedReplay}
+use Rattle.sq_drive.specs.Writing.{IsLost}
+use Rattle.sq_drive.proofs.DrivingLemmas.{not_too_much}
+use Rattle.sq_drive.proofs.StopLemmas.{lost_cut, lost_garbled, lost_stop, lost_unchanged, unchanged_garbled}
+use Rattle.sq_top.specs.Ends.{DoesPart, KnowsDisk}
+use Rattle.sq_top.specs.Outside.{Outside}
+use Rattle.sq_top.specs.Running.{EndsEarly}
 
 -- a refusal, and want of memory, stops no engine
 pub refused_stop : (P : Engine → Type 0) (was is : DiskLog) (before now : ℕ) (s : Status) → (is_refusal s ≡ true) ⊎ (s ≡ status.Memory) → StopHasCause P was is before now s
@@ -42,3 +49,15 @@ told_refused s told (inr memory) refused = let both : is_refusal status.Memory �
 pub told_plain : (s told : Status) → (told ≡ s) ⊎ ((told ≡ status.Memory) × (s ≢ status.SinkFault)) → is_plain_end s ≡ true → is_plain_end told ≡ true
 told_plain s told (inl same) plain = ap is_plain_end same ∙ plain
 told_plain s told (inr memory) plain = ap is_plain_end memory.0
+
+-- what is lost on its way out cuts a command short
+pub lost_early : (c : Option Command) (r : AcceptedReplay) (before after : Outside) (s : Status) → IsLost before.output.faults after.output.faults s
+    → (KnowsDisk c after → DoesPart c r s before after) → EndsEarly c r before after s
+lost_early c r before after s lost part = record {
+  part = part;
+  cut = lost_cut before.output.faults after.output.faults s lost;
+  stopped = lost_stop _ before.disk.log after.disk.log before.disk.faults after.disk.faults before.output.faults after.output.faults s lost;
+  unchanged = λ is-honest. lost_unchanged before.output.faults after.output.faults s lost;
+  garbled = λ knows. lost_garbled before.output.faults after.output.faults s lost;
+  too_much = λ knows. not_too_much _ before.output.faults after.output.faults s lost;
+}

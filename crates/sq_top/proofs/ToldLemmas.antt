@@ -1,5 +1,5 @@
 -- Where files are told, a run reads what is told, and so what is left of its script comes to what words and files come to.
-use Rattle.std.proofs.Common.{◌≡◌, ◌≢◌, ◌⊎◌, inl, inr, ℕ, ◌+◌, ◌^◌, ◌<◌, ◌≤◌, Bool, true, false, ◌||◌, List, [], ◌∷◌, length, refl, ap, sym, ◌∙◌, subst, arith, Option, None, Some}
+use Rattle.std.proofs.Common.{◌≡◌, ◌≢◌, ◌⊎◌, inl, inr, ℕ, ◌+◌, ◌^◌, ◌<◌, ◌≤◌, Bool, true, false, List, [], ◌∷◌, length, refl, ap, sym, ◌∙◌, subst, arith, Option, None, Some}
 use Rattle.std.specs.Prelude.{⊤, nat_lt, IsSome, IsSomeAnd, Result, Ok, Err}
 use Rattle.std.specs.Option.{option_and_then}
 use Rattle.std.proofs.lemmas.Bool.Decides.{nat_tests}
@@ -28,7 +28,6 @@ use Rattle.sq_drive.proofs.ClassLemmas.{TellsClasses}
 use Rattle.sq_top.proofs.EndLemmas.{begun_nothing, replay_tells_classes}
 use Rattle.sq_top.proofs.ReadsLemmas.{Holds, HoldsFor, IsPartOf, IsRuleOf, is_rule, left_holds, script_holds}
 use Rattle.sq_reader.specs.Limits.{settings_limit}
-use Rattle.sq_outside.specs.Sinks.{AppendsSuch}
 use Rattle.std.proofs.lemmas.Bool.{or_right}
 use Rattle.sq_words.proofs.Lists.{same_bytes_itself}
 use Rattle.sq_status.specs.StatusKinds.{is_refusal, is_garbled}

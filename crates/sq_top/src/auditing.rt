@@ -1,14 +1,15 @@
 // An audit, and the line that it writes.
-ghost use Rattle.std.specs.Prelude.{◌≡◌, ◌≢◌, ℕ, ◌≤◌, true, IfErr, IfOk, List, OnErr, OnOk, Some, map};
-ghost use Rattle.sq_outside.specs.Sinks.{AppendsPrefix, appended};
+ghost use Rattle.std.specs.Prelude.{◌≡◌, ℕ, ◌≤◌, true, IfErr, IfOk, List, OnOk, Some, map};
+ghost use Rattle.sq_outside.specs.Sinks.{appended};
 ghost use Rattle.sq_command.specs.declared.Command.TheVariants as Command;
 ghost use Rattle.sq_command.specs.Commands.{command_in};
 ghost use Rattle.sq_top.specs.Ends.{Ends};
 ghost use Rattle.sq_work.specs.FolderStates.{folder_state};
-ghost use Rattle.sq_top.specs.Outside.{DiskState, SinkState, outside, sink_state};
+ghost use Rattle.sq_drive.specs.States.{DiskState, SinkState, sink_state};
+ghost use Rattle.sq_top.specs.Outside.{outside};
 ghost use Rattle.sq_top.specs.Texts.{verdict_text};
 ghost use Rattle.sq_work.specs.AcceptedViews.{CanRun, replay_of};
-ghost use Rattle.sq_drive.specs.Writing.{IsLost};
+ghost use Rattle.sq_drive.specs.Writing.{LosesWhole};
 ghost use Rattle.sq_value.specs.CommandWords.{may_name};
 ghost use Rattle.sq_status.specs.Messages.{source_told};
 ghost use Rattle.sq_status.specs.StatusKinds.{is_plain_end};
@@ -54,9 +55,7 @@ fn verdict_line(alloc: Global, accepted: Accepted) -> Result<Vec<u8>, AllocError
 fn write_verdict<S: Sink>(alloc: Global, accepted: Accepted, out: &mut S) -> Result<(), Status>
     requires { CanRun accepted }
     ensures ok { OnOk result (S.written out.new ≡ appended (S.written out.old) (verdict_text (replay_of accepted))) }
-    ensures err { OnErr result (AppendsPrefix (S.written out.old) (S.written out.new) (verdict_text (replay_of accepted))) }
-    ensures alone { IfErr result (λ s. s ≢ Status.SinkFault → S.written out.new ≡ S.written out.old) }
-    ensures lost { IfErr result (λ s. IsLost (S.faults out.old) (S.faults out.new) s) }
+    ensures err { IfErr result (LosesWhole (sink_state S.Sink out.old) (sink_state S.Sink out.new) (verdict_text (replay_of accepted))) }
     ensures later { S.faults out.old ≤ S.faults out.new }
 {
     let line = match verdict_line(alloc, accepted) {

@@ -1,20 +1,17 @@
 // A run, but for its message, and the message.
-ghost use Rattle.std.specs.Prelude.{◌≡◌, ◌≢◌, ◌⊎◌, ℕ, ◌≤◌, [], IfErr, IfOk, List, OnOk, Option, false, map, true};
+ghost use Rattle.std.specs.Prelude.{◌≡◌, ◌≢◌, ◌⊎◌, ℕ, ◌≤◌, IfErr, IfOk, List, OnOk, false, map, true};
 ghost use Rattle.std.specs.String.{string_bytes};
 ghost use Rattle.sq_outside.specs.Faults.{Rose};
 ghost use Rattle.sq_words.specs.Lists.{IsPrefixOf};
-ghost use Rattle.sq_outside.specs.Disks.{Pages};
 ghost use Rattle.sq_pool.specs.Trust.{IsLater, Tells, known};
-ghost use Rattle.sq_core.specs.Runs.{IsRun, IsSoundEngine};
 ghost use Rattle.sq_command.specs.Commands.{command_in, reads_folder, runs_engine};
 ghost use Rattle.sq_top.specs.Ends.{DoesAll, Ends, KnowsDisk};
 ghost use Rattle.sq_work.specs.FolderStates.{FolderState, folder_state};
-ghost use Rattle.sq_top.specs.Outside.{SinkState, disk_state, outside, sink_state};
+ghost use Rattle.sq_drive.specs.States.{SinkState, disk_state, sink_state};
+ghost use Rattle.sq_top.specs.Outside.{outside};
 ghost use Rattle.sq_top.specs.Running.{EndsEarly, IsReportedBy, WhoeverAsks};
-ghost use Rattle.sq_queue.specs.Faces as faces;
 ghost use Rattle.sq_sched.specs.Policies.{seed_words};
-ghost use Rattle.sq_drive.specs.Failing.{FedNeeded};
-ghost use Rattle.sq_drive.specs.Due.{replayed};
+ghost use Rattle.sq_drive.specs.Failing.{FedNeeded, IsNewOf};
 ghost use Rattle.sq_work.specs.AcceptedViews.{CanRun, IsPrepared, replay_of};
 ghost use Rattle.sq_outside.specs.Sinks.{AppendsSuch};
 ghost use Rattle.sq_status.specs.Messages.{TellsStatus, source_told};
@@ -43,9 +40,7 @@ pub(crate) enum Report {
 /// The engine of what was accepted, and the policy that it is driven by.
 pub(crate) fn start(alloc: Global, accepted: Accepted) -> Result<(Engine, Policy), Status>
     requires { CanRun accepted }
-    ensures sound { IfOk result (λ e. IsSoundEngine e.0) }
-    ensures run { IfOk result (λ e. (pages : Option Pages) (steps : ℕ) → IsRun (replayed (replay_of accepted)) pages e.0 [] steps steps) }
-    ensures frames { IfOk result (λ e. faces.frames (e.0).engine.flow.queues ≡ accepted.frames) }
+    ensures new { IfOk result (λ e. IsNewOf (replay_of accepted) e.0) }
     ensures policy { IfOk result (λ e. e.1 ≡ record { rule = accepted.rule; picks = accepted.picks.items; words = seed_words accepted.seed; train = accepted.train }) }
     ensures memory { IfErr result (λ s. s ≡ Status.Memory) }
 {

@@ -6,7 +6,7 @@ ghost use Rattle.sq_words.specs.Lists.{IsPrefixOf};
 ghost use Rattle.sq_item.specs.SoundItems.{IsBody, IsMark, IsSoundItem};
 ghost use Rattle.sq_item.specs.Things.{Thing, body_part};
 ghost use Rattle.sq_road.specs.Levels.{AgreesWith};
-ghost use Rattle.sq_oper.specs.declared.tally.Moment.{Moment};
+ghost use Rattle.sq_oper.specs.declared.tally.Position.{Position};
 ghost use Rattle.sq_oper.specs.Entries.{Entry, entries};
 ghost use Rattle.sq_oper.specs.Outflow.{given, ItemsSound, ThingsUpTo};
 ghost use Rattle.sq_oper.specs.Order.{IsFuture, unmarked, after_all};
@@ -17,7 +17,7 @@ ghost use Rattle.sq_windrop.specs.Drops.{IsDropping, IsBegunAlone, dropping, lev
 
 use crate::give::give_item;
 use sq_item::{Body, Item, Mark, Sign};
-use sq_oper::{Decision, Moment, Operator, Outlet, Tally};
+use sq_oper::{Decision, Operator, Outlet, Position, Tally};
 use sq_outside::Steps;
 use sq_road::{Levels, draw};
 use sq_tagged::bound_of;
@@ -64,18 +64,18 @@ impl WinDropBox {
         requires keep { keep < 4096 * length }
         requires epoch { 1 ≤ epoch }
         ensures marked { (table : ℕ → ℕ → ℕ) (future : List Entry) (q : ℕ)
-            → IsFuture (⟦<WinDropBox as Operator>⟧.takes_marks result) (⟦<WinDropBox as Operator>⟧.fits result) Moment.Start future
+            → IsFuture (⟦<WinDropBox as Operator>⟧.takes_marks result) (⟦<WinDropBox as Operator>⟧.fits result) Position.Start future
             → ⟦<WinDropBox as Operator>⟧.rest result table future q
             ≡ at_zero q (spread_of (drop_tagged (is_batch_dropped (dropping w length keep epoch seed) table) (until_at length keep) length (batches_touched length keep (tuples_of future)) (tuples_of future))) }
         ensures decides { (table : ℕ → ℕ → ℕ) (future : List Entry)
-            → IsFuture (⟦<WinDropBox as Operator>⟧.takes_marks result) (⟦<WinDropBox as Operator>⟧.fits result) Moment.Start future
+            → IsFuture (⟦<WinDropBox as Operator>⟧.takes_marks result) (⟦<WinDropBox as Operator>⟧.fits result) Position.Start future
             → ⟦<WinDropBox as Operator>⟧.decides result table future ≡ decided (dropping w length keep epoch seed) table (batches_touched length keep (tuples_of future)) }
         ensures fits { (port : ℕ) (fields : List Value) → ⟦<WinDropBox as Operator>⟧.fits result port fields ≡ (port == 0) }
         ensures takes_marks { (port : ℕ) → ⟦<WinDropBox as Operator>⟧.takes_marks result port ≡ false }
         ensures reads { (of : ℕ) → ⟦<WinDropBox as Operator>⟧.reads result of ≡ (of == epoch) }
         ensures holds { (time : ℕ) (things : List Thing) → ⟦<WinDropBox as Operator>⟧.may_hold result time things → things ≡ [] }
         ensures none_lost { (future : List Entry) → ⟦<WinDropBox as Operator>⟧.lost result future ≡ 0 }
-        ensures start { (⟦<WinDropBox as Operator>⟧.place result ≡ Moment.Start) × (⟦<WinDropBox as Operator>⟧.taken result ≡ 0) }
+        ensures start { (⟦<WinDropBox as Operator>⟧.place result ≡ Position.Start) × (⟦<WinDropBox as Operator>⟧.taken result ≡ 0) }
         ensures valid { ⟦<WinDropBox as Operator>⟧.valid result × IsTrue (⟦<WinDropBox as Operator>⟧.running result) }
     {
         WinDropBox {

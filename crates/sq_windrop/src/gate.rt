@@ -5,7 +5,7 @@ ghost use Rattle.sq_value.specs.declared.Value.{Value};
 ghost use Rattle.sq_words.specs.Lists.{IsPrefixOf};
 ghost use Rattle.sq_item.specs.SoundItems.{IsBody};
 ghost use Rattle.sq_item.specs.Things.{Thing, mark_part, body_part};
-ghost use Rattle.sq_oper.specs.declared.tally.Moment.{Moment};
+ghost use Rattle.sq_oper.specs.declared.tally.Position.{Position};
 ghost use Rattle.sq_oper.specs.Entries.{Entry, at_port};
 ghost use Rattle.sq_oper.specs.Outflow.{given, ItemsSound};
 ghost use Rattle.sq_oper.specs.Machine.{next_all, gives_all};
@@ -15,7 +15,7 @@ ghost use Rattle.sq_windrop.specs.Gates.{IsLength, shows_at, gate_shown, gate_ne
 
 use crate::give::give_item;
 use sq_item::{Body, Item, Mark, Sign};
-use sq_oper::{Decision, Moment, Operator, Outlet, Tally};
+use sq_oper::{Decision, Operator, Outlet, Position, Tally};
 use sq_outside::Steps;
 use sq_road::Levels;
 use sq_value::Value;
@@ -37,7 +37,7 @@ impl GateBox {
     pub fn new(length: Option<u64>) -> GateBox
         requires { IsLength length }
         ensures marked { (table : ℕ → ℕ → ℕ) (future : List Entry) (q : ℕ)
-            → IsFuture (⟦<GateBox as Operator>⟧.takes_marks result) (⟦<GateBox as Operator>⟧.fits result) Moment.Start future
+            → IsFuture (⟦<GateBox as Operator>⟧.takes_marks result) (⟦<GateBox as Operator>⟧.fits result) Position.Start future
             → ⟦<GateBox as Operator>⟧.rest result table future q ≡ at_zero q (things (gate_shown length future)) }
         ensures fits { (port : ℕ) (fields : List Value) → ⟦<GateBox as Operator>⟧.fits result port fields ≡ true }
         ensures takes_marks { (port : ℕ) → ⟦<GateBox as Operator>⟧.takes_marks result port ≡ first_port port }
@@ -45,7 +45,7 @@ impl GateBox {
         ensures holds { (time : ℕ) (things : List Thing) → ⟦<GateBox as Operator>⟧.may_hold result time things → things ≡ [] }
         ensures decides { (table : ℕ → ℕ → ℕ) (future : List Entry) → ⟦<GateBox as Operator>⟧.decides result table future ≡ [] }
         ensures none_lost { (future : List Entry) → ⟦<GateBox as Operator>⟧.lost result future ≡ 0 }
-        ensures start { (⟦<GateBox as Operator>⟧.place result ≡ Moment.Start) × (⟦<GateBox as Operator>⟧.taken result ≡ 0) }
+        ensures start { (⟦<GateBox as Operator>⟧.place result ≡ Position.Start) × (⟦<GateBox as Operator>⟧.taken result ≡ 0) }
         ensures valid { ⟦<GateBox as Operator>⟧.valid result × IsTrue (⟦<GateBox as Operator>⟧.running result) }
     {
         GateBox {

@@ -6,7 +6,8 @@ use Rattle.sq_aggfn.specs.Windows.{IsWindow}
 use Rattle.sq_oper.specs.Outflow.{given}
 use Rattle.sq_oper.specs.Streams.{at_zero}
 use Rattle.sq_oper.proofs.StreamLemmas.{at_zero-nil}
-use Rattle.sq_pane.specs.Panes.{shift_of, total, AllAreMade}
+use Rattle.sq_pane.specs.Panes.{shift_of}
+use Rattle.sq_rows.specs.Rows.{total, AllAreMade}
 use Rattle.sq_pane.specs.Blocks.{IsJoin}
 use Rattle.sq_pane.specs.States.{states_of, HaveBlocks}
 use Rattle.sq_agg.specs.Holdings.{FitsResult, MarksWait, bounds_of, due_before, folding_of, told_open}

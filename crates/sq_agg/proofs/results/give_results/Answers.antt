@@ -6,7 +6,8 @@ use Rattle.sq_oper.specs.Outflow.{given}
 use Rattle.sq_oper.specs.Streams.{at_zero, things}
 use Rattle.sq_oper.proofs.GivenLemmas.{IsPrefixOf-append}
 use Rattle.sq_oper.proofs.StreamLemmas.{at_zero-append, at_zero-nil}
-use Rattle.sq_pane.specs.Panes.{AllAreMade, lent_group, window_from}
+use Rattle.sq_pane.specs.Panes.{lent_group, window_from}
+use Rattle.sq_rows.specs.Rows.{AllAreMade}
 use Rattle.sq_pane.specs.States.{states_of}
 use Rattle.sq_agg.specs.Holdings.{FitsResult, results_of, tagged}
 use Rattle.sq_agg.proofs.EndedLemmas.{All_window}

@@ -3,7 +3,8 @@ use Rattle.std.specs.List.{AllByRecursion}
 use Rattle.sq_words.specs.Lists.{IsPrefixOf}
 use Rattle.sq_oper.specs.Outflow.{given, ItemsSound}
 use Rattle.sq_oper.specs.Streams.{at_zero, things}
-use Rattle.sq_pane.specs.Panes.{AllAreMade, lent_group, window_from}
+use Rattle.sq_pane.specs.Panes.{lent_group, window_from}
+use Rattle.sq_rows.specs.Rows.{AllAreMade}
 use Rattle.sq_pane.specs.States.{states_of}
 use Rattle.sq_agg.specs.Holdings.{FitsResult, results_of, tagged}
 use Rattle.sq_agg.proofs.results.give_results.Given as goal

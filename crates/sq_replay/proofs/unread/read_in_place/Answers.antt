@@ -6,4 +6,4 @@ pub returns-clause-read : goal.returns-clause-read
 returns-clause-read c =
     let u = c.args.unread.now in
     let read = rw (c.in-Some.is, c.deref.ensures.value, c.deref-2.ensures.value) at c.in_ok-tuple.ensures in
-    sym (line_recorded u.kinds.items u.latest u.text.items u.at c.in-Some.tuple c.read_at_once.new.end read)
+    sym (line_recorded u.kinds.items u.latest u.text.items u.at c.in-Some.tuple c.read_into.new.end read)

@@ -4,7 +4,7 @@ use Rattle.sq_start.proofs.ToldLemmas.{point-fine}
 use Rattle.sq_start.proofs.StartedLemmas.{drop-started}
 use Rattle.sq_start.proofs.actors.new_drop.Goals as goal
 use Rattle.sq_words.proofs.Numbers.{eqb_itself}
-use Rattle.sq_model.proofs.FirstLemmas.{there-in}
+use Rattle.sq_points.proofs.FirstLemmas.{there-in}
 
 pub drop_actor-requires-clause-keep : goal.drop_actor-requires-clause-keep
 drop_actor-requires-clause-keep c =

@@ -2,7 +2,7 @@ use Rattle.std.proofs.Common.{◌≡◌, ap, ◌∙◌, length, rules}
 use Rattle.sq_start.specs.Starts.{lags_below}
 use Rattle.sq_start.proofs.ToldLemmas.{none-told, some-told}
 use Rattle.sq_start.proofs.told.box_lags.Goals as goal
-use Rattle.sq_model.proofs.FirstLemmas.{there-in}
+use Rattle.sq_points.proofs.FirstLemmas.{there-in}
 
 pub returns-in-None-clause-lags : goal.returns-in-None-clause-lags
 returns-in-None-clause-lags c =

@@ -4,7 +4,7 @@ use Rattle.sq_place.specs.declared.DropPoint.{DropPoint}
 use Rattle.sq_start.proofs.PointLemmas.{first-step}
 use Rattle.sq_start.proofs.told.drop_above_box.Goals as goal
 use Rattle.sq_words.specs.Lists.{contains_number}
-use Rattle.sq_model.proofs.FirstLemmas.{there-in}
+use Rattle.sq_points.proofs.FirstLemmas.{there-in}
 use Rattle.sq_points.specs.Above.{first_drop}
 
 pub returns-then-has_box-clause-first : goal.returns-then-has_box-clause-first

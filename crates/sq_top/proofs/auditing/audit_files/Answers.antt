@@ -22,8 +22,7 @@ pub returns-in-Err-write_verdict-clause-ends : goal.returns-in-Err-write_verdict
 returns-in-Err-write_verdict-clause-ends g c words disk messages messages' steps asked =
     rw (c.stopped_by-in-Err-write_verdict.ensures.0, c.stopped_by-in-Err-write_verdict.ensures.1)
     (audited_cut words c.args.net c.args.text.now asked _ _ (replay_of c.in-Ok.accepted) _
-    (c.in-Ok.ensures.prepared words asked) c.in-Ok.ensures.no_fault refl c.in-Err-write_verdict.status
-    c.in-Err-write_verdict.ensures.lost c.in-Err-write_verdict.ensures.err c.in-Err-write_verdict.ensures.alone)
+    (c.in-Ok.ensures.prepared words asked) c.in-Ok.ensures.no_fault refl c.in-Err-write_verdict.status c.in-Err-write_verdict.ensures.err)
 
 pub returns-in-Err-write_verdict-clause-plain : goal.returns-in-Err-write_verdict-clause-plain
-returns-in-Err-write_verdict-clause-plain g c words asked = rw c.stopped_by-in-Err-write_verdict.ensures.0 (lost_plain _ _ c.in-Err-write_verdict.status c.in-Err-write_verdict.ensures.lost)
+returns-in-Err-write_verdict-clause-plain g c words asked = rw c.stopped_by-in-Err-write_verdict.ensures.0 (lost_plain _ _ c.in-Err-write_verdict.status c.in-Err-write_verdict.ensures.err.part.lost)

@@ -6,7 +6,7 @@ use Rattle.sq_command.specs.declared.Command.TheVariants as command
 use Rattle.sq_command.specs.Commands.{command_in}
 use Rattle.sq_work.specs.Scripts.{script_of}
 use Rattle.sq_work.specs.FolderStates.{folder_state}
-use Rattle.sq_top.specs.Outside.{disk_state}
+use Rattle.sq_drive.specs.States.{disk_state}
 use Rattle.sq_top.specs.declared.running.Report.TheVariants as report
 use Rattle.sq_top.specs.Running.{IsReportedBy}
 use Rattle.sq_top.proofs.EndLemmas.{prepared_made, stopped_ends}

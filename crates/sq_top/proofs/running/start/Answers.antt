@@ -1,20 +1,18 @@
-use Rattle.std.proofs.Common.{map, sym, ◌∙◌}
-use Rattle.std.proofs.lemmas.List.{length-map}
+use Rattle.std.proofs.Common.{map}
 use Rattle.sq_top.proofs.SourceLemmas.{recorded_even, recorded_few, recorded_fit, recorded_streams, recorded_tuples}
 use Rattle.sq_top.proofs.running.start.Goals as goal
 
-pub replaying-requires-clause-lists : goal.replaying-requires-clause-lists
-replaying-requires-clause-lists c =
-    sym (length-map c.args.accepted.sources.items (λ xs. xs.items)) ∙ recorded_even c.args.accepted.network.sources (map (λ xs. xs.items) c.args.accepted.sources.items) c.requires.recorded
-
-pub replaying-requires-clause-streams : goal.replaying-requires-clause-streams
-replaying-requires-clause-streams c = recorded_streams c.args.accepted.network.sources _ c.requires.recorded
-
-pub replaying-requires-clause-tuples : goal.replaying-requires-clause-tuples
-replaying-requires-clause-tuples c = recorded_tuples c.args.accepted.network.sources _ c.requires.recorded
-
-pub replaying-requires-clause-few : goal.replaying-requires-clause-few
-replaying-requires-clause-few c = recorded_few c.args.accepted.network.sources _ c.requires.recorded
-
-pub replaying-requires-clause-fit : goal.replaying-requires-clause-fit
-replaying-requires-clause-fit c = recorded_fit c.args.accepted.network _ c.requires.recorded
+pub replaying-requires : goal.replaying-requires
+replaying-requires c =
+    let n = c.args.accepted.network in
+    let recorded = c.requires.recorded in
+    record {
+      sound = c.requires.sound;
+      limits = c.requires.limits;
+      lists = recorded_even n.sources (map (λ xs. xs.items) c.args.accepted.sources.items) recorded;
+      streams = recorded_streams n.sources _ recorded;
+      tuples = recorded_tuples n.sources _ recorded;
+      few = recorded_few n.sources _ recorded;
+      fit = recorded_fit n _ recorded;
+      frames = c.requires.frames;
+    }
