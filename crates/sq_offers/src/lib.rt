@@ -4,25 +4,14 @@
 //! two are alike. Below stand the lists of `sq_words`.
 #![tactic(auto)]
 
-ghost use Rattle.std.specs.Prelude.{◌≡◌, ◌≤◌, OnOk};
+ghost use Rattle.std.specs.Prelude.{◌≡◌, OnOk};
 ghost use Rattle.sq_words.specs.Lists.{sort_by};
 ghost use Rattle.sq_offers.specs.Offers.{is_cheaper_offer};
 
-use std::alloc::AllocError;
+mod offers;
 
-/// A step whose numbers are small enough to be multiplied.
-#[derive(Clone, Copy, Drop)]
-pub struct Offer {
-    /// The drop, counted from 0.
-    pub drop: u32,
-    /// Which step of the drop it is, 1 to 20.
-    pub k: u32,
-    /// What it loses.
-    pub loss: u64,
-    /// The load that it saves.
-    pub gain: u64,
-    pub ghost gains: { 1 ≤ gain },
-}
+pub use offers::Offer;
+use std::alloc::AllocError;
 
 /// Sorts steps by their loss for their gain, the least first.
 pub fn sort_offers(offers: &mut Vec<Offer>) -> Result<(), AllocError>
