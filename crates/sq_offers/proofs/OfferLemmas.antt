@@ -4,7 +4,6 @@ use Rattle.std.specs.Cmp.{IsStrictWeakOrder}
 use Rattle.std.proofs.Math.Nat.{le_of_mul-le-mul_left, mul-le-mul_left}
 use Rattle.std.proofs.lemmas.Bool.Decides.{nat_tests}
 use Rattle.std.proofs.lemmas.Bool.{ltb-false, le-ltb}
-use Rattle.sq_offers.specs.declared.offers.Offer.{Offer}
 use Rattle.sq_offers.specs.Offers.{is_cheaper_offer}
 
 -- at least as dear as one that is at least as dear as a third
