@@ -1,5 +1,5 @@
 -- Values that are read are as many as are asked for.
-use Rattle.std.proofs.Common.{◌≡◌, ◌≤◌, ℕ, zero, suc, List, [], ◌∷◌, length, Option, Some, subst, ap, refl, sym}
+use Rattle.std.proofs.Common.{◌≡◌, ℕ, zero, suc, List, [], ◌∷◌, length, Option, Some, subst, ap, refl}
 use Rattle.sq_page.specs.Reading.{take_many}
 use Rattle.sq_page.proofs.Takes.{bind_some, some_is}
 use Rattle.sq_words.specs.Options.{◌>>=◌}

@@ -3,25 +3,24 @@
 //! The contracts promise that the steps of a road stand from the least loss for their gain to the greatest, that
 //! no plan that gains at least what a row saves loses less than the row, and that the row's ratio shows it; that a
 //! level is what was set for its epoch and drop and never changes once its epoch is closed; and that a draw is a
-//! word of a published generator. Below stand the fractions of `sq_qos` and the lists of `sq_value`.
+//! word of a published generator. Below stand the sorting of steps of `sq_offers`, the fractions of `sq_qos` and the
+//! lists of `sq_value`.
 #![tactic(auto)]
 
 ghost use Rattle.std.specs.Prelude.{◌≡◌, ◌*◌, ◌<◌, ◌≤◌, ◌^◌, ◌++◌, length, map, IfOk, OnOk};
 ghost use Rattle.std.specs.List.{sum, sum_by, zip, enumerate_from, All};
 ghost use Rattle.std.specs.List.Sorted.{IsNonDecreasing};
-ghost use Rattle.sq_words.specs.Lists.{sort_by};
 ghost use Rattle.sq_road.specs.Roads.{steps_of_drop, all_steps, IsRoadOf};
-ghost use Rattle.sq_road.specs.Offers.{step_of, is_cheaper_offer};
+ghost use Rattle.sq_road.specs.Offers.{step_of};
 
 mod draws;
 mod levels;
-mod offers;
 mod rows;
 
 pub use draws::draw;
 pub use levels::Levels;
-use offers::Offer;
 pub use rows::Road;
+use sq_offers::{Offer, sort_offers};
 use sq_qos::Frac;
 use std::alloc::{AllocError, Global};
 
@@ -113,14 +112,6 @@ fn push_offers(
         })?;
     }
     Ok(())
-}
-
-fn sort_offers(offers: &mut Vec<Offer>) -> Result<(), AllocError>
-    ensures { OnOk result (offers.new.items ≡ sort_by is_cheaper_offer offers.old.items) }
-{
-    offers.sort_by(|a, b| {
-        (u128::from(a.loss) * u128::from(b.gain)).cmp(&(u128::from(b.loss) * u128::from(a.gain)))
-    })
 }
 
 fn steps_from(alloc: Global, offers: &[Offer]) -> Result<Vec<Step>, AllocError>

@@ -14,8 +14,8 @@ use Rattle.sq_graph.specs.declared.Wiring.{Wiring}
 use Rattle.sq_net.specs.declared.Network.{Network}
 use Rattle.sq_net.specs.declared.Node.{Node}
 use Rattle.sq_net.specs.declared.Body.TheVariants as body
-use Rattle.sq_tap.specs.Staying.{needed_for}
-use Rattle.sq_tap.specs.Joining.{boxes_in_front, joined, joined_wires}
+use Rattle.sq_joined.specs.Staying.{needed_for}
+use Rattle.sq_joined.specs.Joining.{boxes_in_front, joined, joined_wires}
 use Rattle.sq_tap.specs.Parts.{full_output, tuples_since}
 
 abbrev box : BoxKind → List ℕ → ℕ → BoxWires

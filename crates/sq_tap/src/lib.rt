@@ -3,8 +3,8 @@
 //! What the stream needs of the network stays; a Filter on the stream lets pass what comes from the tick on; the query
 //! stands behind it in place of its source. The contracts promise that the joined network is exactly that, that it is
 //! sound and keeps the limits of drop points, that each of its outputs shows what the query alone shows over the part of
-//! the stream from the tick on, and that a refusal is that of the first broken rule, want of memory aside. Below stand the
-//! typed network of `sq_net`, its drop points and the full streams of `sq_model`. The rules are this project's own.
+//! the stream from the tick on, and that a refusal is that of the first broken rule, want of memory aside. Below stand what
+//! makes the joined network (`sq_joined`), the typed network of `sq_net`, its drop points and the full streams of `sq_model`. The rules are this project's own.
 #![tactic(auto)]
 
 ghost use Rattle.std.specs.Prelude.{◌≡◌, ◌≢◌, ◌≤◌, ◌<◌, ◌^◌, ◌+◌, true, length, IfOk, IfErr, OnOk};
@@ -12,27 +12,23 @@ ghost use Rattle.sq_graph.specs.Order.{is_there};
 ghost use Rattle.sq_graph.specs.Wires.{producer_of};
 ghost use Rattle.sq_net.specs.SoundNetworks.{IsSound};
 ghost use Rattle.sq_points.specs.Limits.{KeepsDropLimits};
-ghost use Rattle.sq_tap.specs.Staying.{needed_for, staying};
-ghost use Rattle.sq_tap.specs.Joining.{boxes_in_front, joined};
+ghost use Rattle.sq_joined.specs.Staying.{needed_for, staying};
+ghost use Rattle.sq_joined.specs.Joining.{boxes_in_front, joined};
 ghost use Rattle.sq_tap.specs.Rules.{HasOneSource, HasTheKinds, KeepsRules, BreaksFirst};
 ghost use Rattle.sq_tap.specs.Parts.{AnswersFromPart};
 
-mod boxes;
 mod names;
 mod needs;
 mod rules;
-mod wires;
 
-use boxes::{joined_boxes, tap_box};
 pub use names::stream_named;
 use needs::needed_for;
 use rules::check_source;
+use sq_joined::{boxes_staying, join_kept};
 use sq_net::Network;
 use sq_place::PlaceErr;
 use sq_points::network_points;
-use sq_value::ListOf;
 use std::alloc::{AllocError, Global};
-use wires::{boxes_staying, joined_wires};
 
 /// A query that was joined to a network.
 #[derive(Drop)]
@@ -70,7 +66,7 @@ impl From<AllocError> for TapErr {
     }
 }
 
-// The joined network, for the boxes that stay.
+// The joined network, for the boxes that the stream needs.
 fn join(
     alloc: Global,
     n: Network,
@@ -87,20 +83,7 @@ fn join(
     requires keep { keep.now ≡ needed_for n.wires stream }
     ensures { IfOk result (λ net. net ≡ joined n stream from q) }
 {
-    let wires = joined_wires(alloc, &n.wires, keep, stream, &q.wires)?;
-    let tap = tap_box(alloc, n.stream_schema(stream), q.stream_schema(0), from)?;
-    let epoch = n.epoch;
-    let (sources, boxes, _outputs) = n.into_parts();
-    let (_sources, asked, outputs) = q.into_parts();
-    let boxes = joined_boxes(alloc, boxes.into_vec(), keep, tap, asked.into_vec())?;
-    Ok(Network {
-        epoch,
-        batch: 1,
-        wires,
-        sources,
-        boxes: ListOf::new(boxes),
-        outputs,
-    })
+    join_kept(alloc, n, keep, stream, from, q)
 }
 
 // Refuses a network with a drop point beyond the limits.

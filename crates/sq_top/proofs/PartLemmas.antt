@@ -30,7 +30,7 @@ use Rattle.sq_start.specs.Nets.{decision_on, drop_decisions}
 use Rattle.std.proofs.lemmas.Bool.Decides.{nat_tests}
 use Rattle.sq_tap.specs.declared.TapErr.{TapErr}
 use Rattle.sq_tap.specs.declared.TapErr.TheVariants as error
-use Rattle.sq_tap.specs.Joining.{joined}
+use Rattle.sq_joined.specs.Joining.{joined}
 use Rattle.sq_tap.specs.Names.{stream_named}
 use Rattle.sq_tap.specs.Parts.{full_output, tuples_since}
 use Rattle.sq_tap.proofs.Grafts.{answers_joined}

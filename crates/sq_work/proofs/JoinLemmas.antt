@@ -16,7 +16,7 @@ use Rattle.sq_points.specs.Points.{points_of}
 use Rattle.sq_reader.specs.Drops.{is_drop_within}
 use Rattle.sq_tap.specs.declared.TapErr.{TapErr}
 use Rattle.sq_tap.specs.declared.TapErr.TheVariants as error
-use Rattle.sq_tap.specs.Joining.{boxes_in_front, columns, joined}
+use Rattle.sq_joined.specs.Joining.{boxes_in_front, columns, joined}
 use Rattle.sq_tap.specs.Names.{stream_named}
 use Rattle.sq_tap.specs.Rules.{BreaksFirst, HasOneSource, HasTheKinds, IsWithinLimits, KeepsRules}
 use Rattle.sq_tap.proofs.Grafts.{sound_joined}

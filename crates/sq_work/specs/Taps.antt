@@ -4,7 +4,7 @@ use Rattle.sq_value.specs.Values.{kinds_of}
 use Rattle.sq_net.specs.declared.Network.{Network}
 use Rattle.sq_tap.specs.declared.TapErr.{TapErr}
 use Rattle.sq_tap.specs.declared.TapErr.TheVariants as error
-use Rattle.sq_tap.specs.Joining.{boxes_in_front, columns, joined}
+use Rattle.sq_joined.specs.Joining.{boxes_in_front, columns, joined}
 use Rattle.sq_expr.specs.Kinds.{same_kinds}
 use Rattle.sq_reader.specs.Drops.{is_drop_within}
 use Rattle.std.specs.List.{list_all}

@@ -1,0 +1,4 @@
+pub mod Steps
+pub mod Streams
+pub mod TimeText
+pub mod Making
