@@ -27,8 +27,8 @@ use Rattle.sq_verdict.specs.WholeTexts.{AreEnds, IsWhole}
 use Rattle.sq_audit.specs.Laws.{answer_lines, due_for, record_lines}
 use Rattle.sq_audit.proofs.AuditLemmas.{points_few}
 use Rattle.sq_audit.proofs.Replays.{accepts_whole}
-use Rattle.sq_drive.specs.Due.{Due, answer_in, due_in, ended_in, replayed, shown_at_output}
-use Rattle.sq_drive.specs.Answers.{IsWholeText, is_classed}
+use Rattle.sq_due.specs.Due.{Due, answer_in, due_in, ended_in, replayed, shown_at_output}
+use Rattle.sq_due.specs.Answers.{IsWholeText, is_classed}
 use Rattle.sq_audited.specs.Laws.{AcceptsReplays}
 use Rattle.sq_words.proofs.Lists.{same_bytes_true, same_bytes_itself}
 

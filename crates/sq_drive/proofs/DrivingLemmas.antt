@@ -15,8 +15,8 @@ use Rattle.sq_core.specs.Runs.{IsRun, ShownAll}
 use Rattle.sq_core.proofs.RunLemmas.{shown-so-far}
 use Rattle.sq_status.specs.declared.Status.{Status}
 use Rattle.sq_status.specs.declared.Status.TheVariants as status
-use Rattle.sq_drive.specs.Due.{answer_in}
-use Rattle.sq_drive.specs.Writing.{IsLost}
+use Rattle.sq_due.specs.Due.{answer_in}
+use Rattle.sq_due.specs.Writing.{IsLost}
 use Rattle.sq_drive.specs.Driving.{BeginsAnswer, Completes}
 use Rattle.sq_words.proofs.Lists.{has_item}
 

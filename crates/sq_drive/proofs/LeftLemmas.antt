@@ -21,7 +21,8 @@ use Rattle.sq_core.specs.declared.engine.Engine.{Engine}
 use Rattle.sq_core.specs.Meanings.{actors}
 use Rattle.sq_core.specs.Runs.{IsSoundEngine}
 use Rattle.sq_core.proofs.RunLemmas.{shed-in, shown-in}
-use Rattle.sq_drive.specs.Driving.{IsEventAt, IsRestOf, WritesFirst, history_text}
+use Rattle.sq_drive.specs.Driving.{IsRestOf, WritesFirst}
+use Rattle.sq_due.specs.Histories.{IsEventAt, history_text}
 use Rattle.sq_words.proofs.Lists.{has_item}
 use Rattle.sq_words.proofs.Alls.{all_append}
 

@@ -1,17 +1,6 @@
-pub mod ClassLemmas
-pub mod CountLemmas
 pub mod DrivingLemmas
-pub mod DueLemmas
-pub mod DueWords
 pub mod FailLemmas
 pub mod LeftLemmas
-pub mod LineLemmas
-pub mod OrderWords
 pub mod OutcomeLemmas
-pub mod Rows
-pub mod SortedLines
 pub mod StopLemmas
-pub mod TextLemmas
 pub mod TurnLemmas
-pub mod WritingLemmas
-pub mod SameNumbers

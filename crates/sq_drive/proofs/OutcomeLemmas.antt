@@ -13,15 +13,16 @@ use Rattle.sq_points.specs.Points.{drops_in}
 use Rattle.sq_flow.specs.Events.{drops_of, lines_of}
 use Rattle.sq_core.specs.Runs.{IsSoundEngine}
 use Rattle.sq_status.specs.declared.Status.{Status}
-use Rattle.sq_drive.specs.declared.counting.Counts.{Counts}
-use Rattle.sq_drive.specs.Counting.{AreCountsOf, HasCounts}
-use Rattle.sq_drive.specs.Driving.{HasEnded, IsCutShort, IsEventAt, history_text}
-use Rattle.sq_drive.specs.Due.{answer_in}
-use Rattle.sq_drive.specs.States.{SinkState}
+use Rattle.sq_due.specs.declared.counting.Counts.{Counts}
+use Rattle.sq_due.specs.Counting.{AreCountsOf, HasCounts}
+use Rattle.sq_drive.specs.Driving.{HasEnded, IsCutShort}
+use Rattle.sq_due.specs.Histories.{IsEventAt, history_text}
+use Rattle.sq_due.specs.Due.{answer_in}
+use Rattle.sq_due.specs.States.{SinkState}
 use Rattle.sq_drive.specs.Turns.{CountEnds, DriveEnds, DriveFails, EndsOn, FailsOn, KeepsRun, RunState}
 use Rattle.sq_drive.proofs.DrivingLemmas.{completes, sound_run}
 use Rattle.sq_drive.proofs.LeftLemmas.{first_shown}
-use Rattle.sq_drive.proofs.SameNumbers.{same_numbers}
+use Rattle.sq_due.proofs.SameNumbers.{same_numbers}
 
 module _ (a b : RunState) (events : List Event) where
   module _ (keeps : KeepsRun a b) (ends : EndsOn a b events) where

@@ -8,7 +8,7 @@ use Rattle.sq_flow.specs.Readiness.{FallsBy}
 use Rattle.sq_flow.specs.declared.flow.Flow.{Flow}
 use Rattle.sq_flow.specs.Causes.{IsCauseIn, IsPageRefused}
 use Rattle.sq_drive.specs.Driving.{IsCutShort}
-use Rattle.sq_drive.specs.Writing.{IsLost}
+use Rattle.sq_due.specs.Writing.{IsLost}
 use Rattle.sq_flow.specs.Takes.{NotChanged}
 use Rattle.sq_bring.specs.declared.bring.QueueErr.{QueueErr}
 use Rattle.sq_queue.specs.declared.Queues.{Queues}
@@ -91,10 +91,6 @@ lost_cut before now s (inl memory) =
     subst (IsCutShort before now) (sym memory) (record { begun = refl; no_end = λ is. absurd (cc); sink = λ is. absurd (cc) })
 lost_cut before now s (inr (sink, rose)) =
     subst (IsCutShort before now) (sym sink) (record { begun = refl; no_end = λ is. absurd (cc); sink = λ is. rose })
-
-pub lost_later : (before mid now : ℕ) (s : Status) → before ≤ mid → IsLost mid now s → IsLost before now s
-lost_later before mid now s le (inl memory) = inl memory
-lost_later before mid now s le (inr sink) = inr (sink.0, rose_later 1 before mid now le sink.1)
 
 pub lost_stop : (P : Engine → Type 0) (was is : DiskLog) (before now faults faults' : ℕ) (s : Status) → IsLost faults faults' s → StopHasCause P was is before now s
 lost_stop P was is before now faults faults' s (inl memory) = subst (StopHasCause P was is before now) (sym memory) tt

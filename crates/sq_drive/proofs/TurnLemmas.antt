@@ -20,13 +20,14 @@ use Rattle.sq_core.specs.Steps.{RunFails, RunsOn}
 use Rattle.sq_core.proofs.RunLemmas.{shown-so-far}
 use Rattle.sq_status.specs.declared.Status.{Status}
 use Rattle.sq_work.proofs.StoppedLemmas.{rose_later}
-use Rattle.sq_drive.specs.declared.audience.Audience.{Ghosts}
-use Rattle.sq_drive.specs.Due.{answer_in, turns_in}
-use Rattle.sq_drive.specs.Driving.{BeginsAnswer, IsEventAt, StoppedWith}
+use Rattle.sq_due.specs.declared.audience.Audience.{Ghosts}
+use Rattle.sq_due.specs.Due.{answer_in, turns_in}
+use Rattle.sq_drive.specs.Driving.{BeginsAnswer, StoppedWith}
+use Rattle.sq_due.specs.Histories.{IsEventAt}
 use Rattle.sq_drive.specs.Failing.{CameTo}
 use Rattle.sq_drive.specs.Stopping.{status_of}
 use Rattle.sq_drive.specs.Turns.{CanTurn, FailsOn, GoesOn, IsDrivable, KeepsRun, Moment, RunState, TurnFails, TurnsOn}
-use Rattle.sq_drive.specs.Writing.{IsLost, LosesRest}
+use Rattle.sq_due.specs.Writing.{IsLost, LosesRest}
 use Rattle.sq_drive.proofs.DrivingLemmas.{begins_run, not_too_much}
 use Rattle.sq_drive.proofs.FailLemmas.{came_at_once, came_then}
 use Rattle.sq_drive.proofs.LeftLemmas.{stepped_then}

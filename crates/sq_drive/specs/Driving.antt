@@ -1,18 +1,17 @@
 -- What a run shows on its way: a history of events, whose lines are written one after another.
-use Rattle.std.specs.Prelude.{◌≡◌, ◌≢◌, ℕ, ◌+◌, ◌^◌, ◌<◌, ◌≤◌, Bool, true, false, List, ◌++◌, length, map, Option}
-use Rattle.std.specs.List.{AllByRecursion, flat_map}
-use Rattle.sq_words.specs.Lists.{IsPrefixOf, numbers_to}
+use Rattle.std.specs.Prelude.{◌≡◌, ◌≢◌, ℕ, ◌+◌, ◌^◌, ◌<◌, ◌≤◌, Bool, true, false, List, ◌++◌, length, Option}
+use Rattle.std.specs.List.{AllByRecursion}
+use Rattle.sq_words.specs.Lists.{IsPrefixOf}
 use Rattle.sq_outside.specs.Disks.{Pages}
 use Rattle.sq_outside.specs.Faults.{Rose}
 use Rattle.sq_outside.specs.Sinks.{AppendsPrefix, appended}
 use Rattle.sq_net.specs.declared.Network.{Network}
 use Rattle.sq_oper.specs.declared.outs.Event.{Event}
-use Rattle.sq_lines.specs.RunLines.{end_lines_from, event_line, lines_text}
 use Rattle.sq_model.specs.Shedding.{Replay}
 use Rattle.sq_pool.specs.Trust.{Tells}
 use Rattle.sq_road.specs.Levels.{AgreesWith}
 use Rattle.sq_plan.specs.PlanRows.{level_for}
-use Rattle.sq_flow.specs.Events.{IsEventIn, drops_of, lines_of}
+use Rattle.sq_flow.specs.Events.{drops_of, lines_of}
 use Rattle.sq_flow.specs.Engines.{AllDone}
 use Rattle.sq_flow.specs.Flows.{HoldsItems, decisions_left, items_in, lines_left}
 use Rattle.sq_flow.specs.Plans.{IsPlanned, plans_left, plans_of}
@@ -22,17 +21,10 @@ use Rattle.sq_core.specs.Runs.{IsSoundEngine, fed_at, late_at_seat}
 use Rattle.sq_status.specs.declared.Status.{Status}
 use Rattle.sq_status.specs.declared.Status.TheVariants as status
 use Rattle.sq_points.specs.Points.{drops_in}
-use Rattle.sq_drive.specs.Due.{Answer, answer_in, fed_in, late_counts, turns_in, work_in}
+use Rattle.sq_due.specs.Histories.{IsEventAt, history_text}
+use Rattle.sq_due.specs.Due.{Answer, answer_in, fed_in, late_counts, turns_in, work_in}
 use Rattle.sq_drive.specs.Failing.{TookNeeded, WentOn}
 use Rattle.sq_status.specs.StatusKinds.{is_refusal, is_changed, is_garbled}
-
--- a tuple at an output that is there, a decision of a drop that is there, or a plan
-abbrev pub IsEventAt : Network → Event → Type 0
-IsEventAt n e = IsEventIn (length n.outputs) (drops_in n) e
-
--- the text of a history
-abbrev pub history_text : Network → List Event → List ℕ
-history_text n history = flat_map (event_line n) history
 
 -- of each output, of each drop and of the plans a history has all, in order
 pub record Completes (n : Network) (a : Answer) (history : List Event) : Type 0 where
@@ -74,11 +66,6 @@ pub record IsHalted (honest : Bool) (r : Replay) (history : List Event) (result 
   pub shown : AllByRecursion (IsEventAt r.network) events
   pub written : AppendsPrefix before now (history_text r.network events)
   pub stopped : StoppedWith honest r (history ++ events) begun steps result
-
--- the end lines from a box on, by what the boxes of an engine were fed
-abbrev pub ends_text : ℕ → Engine → List ℕ
-ends_text first e =
-    lines_text (end_lines_from e.network first (map (fed_at e) (numbers_to (length e.network.boxes))) (map (late_at_seat e) (numbers_to (length e.network.boxes))))
 
 -- what was begun is cut short: by no refusal, and by a fault of the sink only where its count rose
 pub record IsCutShort (faults_before faults_now : ℕ) (result : Status) : Type 0 where

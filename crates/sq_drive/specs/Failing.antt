@@ -14,7 +14,7 @@ use Rattle.sq_core.specs.Meanings.{actors}
 use Rattle.sq_core.specs.Runs.{IsRun, tuples_fed}
 use Rattle.sq_status.specs.declared.Status.{Status}
 use Rattle.sq_work.specs.Scripts.{AcceptedReplay}
-use Rattle.sq_drive.specs.Due.{replayed}
+use Rattle.sq_due.specs.Due.{replayed}
 use Rattle.sq_drive.specs.Stopping.{status_of}
 
 -- from one engine, by steps that ended well, it came to another

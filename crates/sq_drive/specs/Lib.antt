@@ -1,10 +1,5 @@
-pub mod States
-pub mod Writing
 pub mod Driving
-pub mod Counting
-pub mod Summaries
-pub mod Due
-pub mod Answers
+pub mod Summed
 pub mod Stopping
 pub mod Failing
 pub mod Turns

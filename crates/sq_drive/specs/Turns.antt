@@ -19,12 +19,14 @@ use Rattle.sq_core.specs.declared.engine.Engine.{Engine}
 use Rattle.sq_core.specs.Meanings.{actors}
 use Rattle.sq_core.specs.Runs.{IsRun, IsSoundEngine, ShownAll}
 use Rattle.sq_status.specs.declared.Status.{Status}
-use Rattle.sq_drive.specs.declared.audience.Audience.{Ghosts}
-use Rattle.sq_drive.specs.declared.counting.Counts.{Counts}
-use Rattle.sq_drive.specs.Counting.{HasCounts, IsSummed}
-use Rattle.sq_drive.specs.Driving.{HasEnded, IsCutShort, IsDriven, IsEventAt, IsHalted, IsRestOf, StoppedWith, WritesFirst, WritesRest}
+use Rattle.sq_due.specs.declared.audience.Audience.{Ghosts}
+use Rattle.sq_due.specs.declared.counting.Counts.{Counts}
+use Rattle.sq_due.specs.Counting.{HasCounts}
+use Rattle.sq_drive.specs.Summed.{IsSummed}
+use Rattle.sq_drive.specs.Driving.{HasEnded, IsCutShort, IsDriven, IsHalted, IsRestOf, StoppedWith, WritesFirst, WritesRest}
+use Rattle.sq_due.specs.Histories.{IsEventAt}
 use Rattle.sq_drive.specs.Failing.{CameTo}
-use Rattle.sq_drive.specs.States.{DiskState, SinkState}
+use Rattle.sq_due.specs.States.{DiskState, SinkState}
 use Rattle.sq_drive.specs.Stopping.{StopHasCause}
 
 -- a run at one moment: its engine, what its disk has noted, and how often it has failed, and the steps taken

@@ -2,14 +2,12 @@
 ghost use Rattle.std.specs.Prelude.{◌≡◌, ℕ, ◌≤◌, ◌<◌, IfErr, IfOk, OnOk, length};
 ghost use Rattle.sq_pool.specs.Trust.{IsLater, known};
 ghost use Rattle.sq_flow.specs.Flows.{measure_of};
-ghost use Rattle.sq_drive.specs.States.{disk_state, sink_state, unseen};
+ghost use Rattle.sq_due.specs.States.{disk_state, sink_state, unseen};
 ghost use Rattle.sq_drive.specs.Stopping.{status_of};
 ghost use Rattle.sq_drive.specs.Turns.{CanTurn, CountEnds, DriveEnds, DriveFails, IsDrivable, KeepsRun, RunsOut, TurnFails, TurnsOn, moment, run_state};
 
-use crate::audience::Audience;
-use crate::counting::{Counts, no_counts};
-use crate::lines::LineWriter;
 use sq_core::{Engine, RunErr};
+use sq_due::{Audience, Counts, LineWriter, no_counts};
 use sq_oper::Event;
 use sq_outside::{PageDisk, Sink, Steps};
 use sq_sched::Policy;

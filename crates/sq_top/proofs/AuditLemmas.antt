@@ -11,7 +11,7 @@ use Rattle.sq_work.specs.Reads.{ScriptLeads}
 use Rattle.sq_top.specs.Ends.{Ends}
 use Rattle.sq_top.specs.Outside.{Outside}
 use Rattle.sq_top.specs.Texts.{IsPrefixOfDue, IsWholeOf, verdict_text, work_for}
-use Rattle.sq_drive.specs.Writing.{IsLost, LosesWhole}
+use Rattle.sq_due.specs.Writing.{IsLost, LosesWhole}
 use Rattle.sq_top.proofs.EndLemmas.{answered_cut, answered_ok, appends_all, appends_begun}
 use Rattle.sq_top.proofs.ReadsLemmas.{HoldsFor, left_holds}
 use Rattle.sq_work.proofs.AuditLemmas.{is_audit}

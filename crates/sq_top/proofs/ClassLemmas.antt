@@ -2,7 +2,7 @@
 use Rattle.std.specs.List.{AllByRecursion}
 use Rattle.sq_lines.specs.Classes.{Class, Dropped, Ended, Planned, Shown}
 use Rattle.std.proofs.Common.{List, refl, true, [], ◌≡◌, ◌∷◌, ◌++◌}
-use Rattle.sq_drive.proofs.ClassLemmas.{is_ended}
+use Rattle.sq_due.proofs.ClassLemmas.{is_ended}
 
 pub is_end : (k : Class) → is_ended k ≡ true → k ≡ Ended
 is_end (Shown name) h = cc

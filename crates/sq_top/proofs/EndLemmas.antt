@@ -35,12 +35,12 @@ use Rattle.sq_place.proofs.Final.{drops-few}
 use Rattle.sq_points.specs.Points.{points_of, windows_of, drops_in}
 use Rattle.sq_points.proofs.Bounds.{few_places}
 use Rattle.std.proofs.lemmas.Fmt.{decimal_nonempty}
-use Rattle.sq_drive.specs.Due.{Answer, Due, answer_in, due_in, due_of, ended_in, fed_in, late_counts, replayed, dropped_from, plan_text, shown_at_output, due_from}
-use Rattle.sq_drive.specs.Answers.{IsPrefixText}
+use Rattle.sq_due.specs.Due.{Answer, Due, answer_in, due_in, due_of, ended_in, fed_in, late_counts, replayed, dropped_from, plan_text, shown_at_output, due_from}
+use Rattle.sq_due.specs.Answers.{IsPrefixText}
 use Rattle.sq_gen.specs.Files.{made_of}
 use Rattle.sq_work.specs.Generation.{HasBadMade, NamesMade}
 use Rattle.sq_status.specs.Messages.{name_at, TellsStatus, source_told}
-use Rattle.sq_drive.specs.Summaries.{summary_of}
+use Rattle.sq_due.specs.Summaries.{summary_of}
 use Rattle.sq_drive.specs.Driving.{IsCutShort}
 use Rattle.sq_work.specs.Scripts.{AcceptedReplay, Script, Reads, Done, Stops, after_words, made_script, script_of}
 use Rattle.sq_work.specs.FolderStates.{FolderState}
@@ -58,7 +58,7 @@ use Rattle.sq_top.specs.Texts.{BeginsText, IsPrefixOfDue, turns_for, verdict_tex
 use Rattle.sq_top.proofs.ReadsLemmas.{leads_self, left_holds}
 use Rattle.sq_work.proofs.StoppedLemmas.{memory_at, some_none, stopped_memory, stopped_rule}
 use Rattle.sq_top.proofs.StopLemmas.{refused_garbled, refused_stop, refused_unchanged}
-use Rattle.sq_drive.proofs.ClassLemmas.{IsLineOf, IsPlainName, TellsClasses, is_end_field}
+use Rattle.sq_due.proofs.ClassLemmas.{IsLineOf, IsPlainName, TellsClasses, is_end_field}
 use Rattle.sq_top.proofs.OrderLemmas.{prefix_text}
 use Rattle.sq_expr.specs.Tokens.{is_letter, in_word}
 use Rattle.sq_words.proofs.Bools.{and_true}

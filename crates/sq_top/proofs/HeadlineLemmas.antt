@@ -33,9 +33,9 @@ use Rattle.sq_command.specs.declared.Command.TheVariants as command
 use Rattle.sq_command.specs.Commands.{command_in, runs_engine}
 use Rattle.sq_work.specs.Reads.{GoesBy, IfAccepted}
 use Rattle.sq_work.specs.Scripts.{AcceptedReplay, Done, Script, script_of}
-use Rattle.sq_drive.specs.Due.{Answer, answer_in, due_of, replayed, shown_at_output}
+use Rattle.sq_due.specs.Due.{Answer, answer_in, due_of, replayed, shown_at_output}
 use Rattle.sq_drive.specs.Failing.{FedNeeded}
-use Rattle.sq_drive.specs.Answers.{IsPrefixText, IsWholeText}
+use Rattle.sq_due.specs.Answers.{IsPrefixText, IsWholeText}
 use Rattle.sq_top.specs.Ends.{DoesAll, DoesNothing, DoesPart, KnowsDisk, Writes}
 use Rattle.sq_top.specs.Headline.{FeedsNeeded, KeepsHeadline, RecordsDropped, ShowsUnrecorded, batch_line, unrecorded}
 use Rattle.sq_top.specs.HeadlineLaw.{RunsKeepTheHeadline, ShowsOutputs, TookIn}

@@ -22,12 +22,13 @@ use Rattle.sq_lines.specs.RunLines.{event_line, output_name_in, lines_text}
 use Rattle.sq_flow.specs.Events.{drops_of, lines_of}
 use Rattle.sq_flow.specs.Plans.{plans_of}
 use Rattle.sq_points.specs.Points.{drops_in}
-use Rattle.sq_drive.specs.Due.{Answer, Due, plan_text, due_from}
-use Rattle.sq_drive.specs.Answers.{IsClassIn, IsPrefixText, IsWholeText, is_classed, class_lines as due_lines}
-use Rattle.sq_drive.specs.Driving.{Completes, IsEventAt, history_text}
-use Rattle.sq_drive.proofs.SortedLines.{filter_same}
-use Rattle.sq_drive.proofs.ClassLemmas.{IsLineOf, IsPlainClass, TellsClasses, all_map, classed_dropped, classed_ended, classed_planned, classed_shown, plain_class}
-use Rattle.sq_drive.proofs.DueLemmas.{IsWholeList, dropped_test, filter_ended, planned_test, shown_test, tells, whole_order, filter_kept, all_pass, both_pass}
+use Rattle.sq_due.specs.Due.{Answer, Due, plan_text, due_from}
+use Rattle.sq_due.specs.Answers.{IsClassIn, IsPrefixText, IsWholeText, is_classed, class_lines as due_lines}
+use Rattle.sq_drive.specs.Driving.{Completes}
+use Rattle.sq_due.specs.Histories.{IsEventAt, history_text}
+use Rattle.sq_due.proofs.SortedLines.{filter_same}
+use Rattle.sq_due.proofs.ClassLemmas.{IsLineOf, IsPlainClass, TellsClasses, all_map, classed_dropped, classed_ended, classed_planned, classed_shown, plain_class}
+use Rattle.sq_due.proofs.DueLemmas.{IsWholeList, dropped_test, filter_ended, planned_test, shown_test, tells, whole_order, filter_kept, all_pass, both_pass}
 use Rattle.sq_top.proofs.OrderLemmas.{prefix_text, whole_text}
 use Rattle.sq_top.proofs.EndLemmas.{due_tells_classes, line_dropped, line_planned, lines_shown, plain_name}
 use Rattle.sq_top.proofs.NamedLemmas.{HasOutput, due_at, find_drop, is_numbered, name_test, none_numbered, number_at, number_listed, one_numbered, output_of, picked_at, same_number}

@@ -8,7 +8,7 @@ use Rattle.std.proofs.lemmas.Fmt.{decimal_injective}
 use Rattle.sq_words.specs.Lists.{are_distinct, contains_bytes, numbers_to, same_bytes}
 use Rattle.sq_lines.specs.LineTexts.{output_line}
 use Rattle.sq_net.specs.declared.Output.{Output}
-use Rattle.sq_drive.specs.Due.{Answer, dropped_from, shown_at_output}
+use Rattle.sq_due.specs.Due.{Answer, dropped_from, shown_at_output}
 use Rattle.sq_words.proofs.Bools.{and_true}
 use Rattle.sq_words.proofs.Lists.{same_bytes_true, same_bytes_itself}
 

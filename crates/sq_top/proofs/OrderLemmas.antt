@@ -7,15 +7,15 @@ use Rattle.std.proofs.lemmas.List.Elements.{filter-append}
 use Rattle.sq_words.specs.Lists.{IsPrefixOf}
 use Rattle.sq_lines.specs.Classes.{Class, Ended, is_of_class, of_class, whole_lines, unfinished}
 use Rattle.sq_lines.proofs.LineLemmas.{AreLines, Cut, IsFront, cut_prefix, is_line, unfinished-cut, whole_lines-cut, whole_lines-lines, unfinished-lines}
-use Rattle.sq_drive.specs.Due.{Due}
-use Rattle.sq_drive.specs.Answers.{AreOthersAll, AreOthersWhole, BeginsNext, IsClassIn, IsPrefixText, IsWholeText, is_classed, class_lines}
+use Rattle.sq_due.specs.Due.{Due}
+use Rattle.sq_due.specs.Answers.{AreOthersAll, AreOthersWhole, BeginsNext, IsClassIn, IsPrefixText, IsWholeText, is_classed, class_lines}
 use Rattle.sq_lines.specs.RunLines.{lines_text}
-use Rattle.sq_drive.proofs.ClassLemmas.{AreAlike, IsDueLine, TellsClasses, alike, is_ended, lines_due, not_ended, plain_class}
-use Rattle.sq_drive.proofs.OrderWords.{IsNextOf, EachIsNext, IsLineOrder, AreAll}
+use Rattle.sq_due.proofs.ClassLemmas.{AreAlike, IsDueLine, TellsClasses, alike, is_ended, lines_due, not_ended, plain_class}
+use Rattle.sq_due.proofs.OrderWords.{IsNextOf, EachIsNext, IsLineOrder, AreAll}
 use Rattle.sq_words.proofs.Alls.{all_append}
 use Rattle.sq_words.proofs.Lists.{get_next}
 use Rattle.sq_top.proofs.ClassLemmas.{is_end, all_middle}
-use Rattle.sq_drive.proofs.DueLemmas.{both_pass}
+use Rattle.sq_due.proofs.DueLemmas.{both_pass}
 
 filter_one : (p : List ℕ → Bool) (t : Bool) (ls : List (List ℕ)) (l : List ℕ) → p l ≡ t → filter p (ls ++ l ∷ []) ≡ filter p ls ++ (if t then l ∷ [] else [])
 filter_one p true ls l e = filter-append p ls (l ∷ []) ∙ rw e refl

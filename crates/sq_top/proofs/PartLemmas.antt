@@ -35,7 +35,7 @@ use Rattle.sq_tap.specs.Names.{stream_named}
 use Rattle.sq_tap.specs.Parts.{full_output, tuples_since}
 use Rattle.sq_tap.proofs.Grafts.{answers_joined}
 use Rattle.sq_tap.proofs.Naming.{named_there}
-use Rattle.sq_drive.specs.Due.{answer_in, outputs_of, dropped_from, shown_at_output}
+use Rattle.sq_due.specs.Due.{answer_in, outputs_of, dropped_from, shown_at_output}
 use Rattle.sq_top.specs.Parts.{ShowsPart, ShowsRead, TapsShowParts}
 use Rattle.sq_work.specs.Reads.{GoesBy}
 use Rattle.sq_status.specs.declared.Status.{Status}

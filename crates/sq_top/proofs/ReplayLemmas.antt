@@ -18,15 +18,16 @@ use Rattle.sq_start.specs.Nets.{decision_on, drop_decisions}
 use Rattle.sq_core.specs.declared.engine.Engine.{Engine}
 use Rattle.sq_core.specs.Runs.{fed_at, late_at_seat}
 use Rattle.sq_status.specs.declared.Status.{Status}
-use Rattle.sq_drive.specs.Due.{Due, answer_in, due_in, ended_in, fed_in, late_counts}
-use Rattle.sq_drive.specs.Answers.{IsPrefixText, IsWholeText}
-use Rattle.sq_drive.specs.Driving.{BeginsAnswer, IsDriven, IsEventAt, IsHalted, ends_text, history_text}
-use Rattle.sq_drive.proofs.ClassLemmas.{IsLineOf}
+use Rattle.sq_due.specs.Due.{Due, answer_in, due_in, ended_in, fed_in, late_counts}
+use Rattle.sq_due.specs.Answers.{IsPrefixText, IsWholeText}
+use Rattle.sq_drive.specs.Driving.{BeginsAnswer, IsDriven, IsHalted}
+use Rattle.sq_due.specs.Histories.{IsEventAt, ends_text, history_text}
+use Rattle.sq_due.proofs.ClassLemmas.{IsLineOf}
 use Rattle.sq_top.proofs.EndLemmas.{all_ended, appends_all, few_drops}
 use Rattle.sq_top.proofs.HistoryLemmas.{beginning_of_history, whole_of_history}
 use Rattle.sq_top.proofs.RestLemmas.{prefix_of_history}
-use Rattle.sq_drive.proofs.WritingLemmas.{appended-nil}
-use Rattle.sq_drive.proofs.SameNumbers.{same_numbers}
+use Rattle.sq_due.proofs.WritingLemmas.{appended-nil}
+use Rattle.sq_due.proofs.SameNumbers.{same_numbers}
 
 module _ (r : Replay) (first : ℕ) (sound : IsSound r.network) where
   abbrev due : Due

@@ -19,10 +19,11 @@ use Rattle.sq_lines.specs.RunLines.{event_line, lines_text}
 use Rattle.sq_flow.specs.Events.{drops_of, lines_of}
 use Rattle.sq_flow.specs.Plans.{plans_of}
 use Rattle.sq_points.specs.Points.{drops_in}
-use Rattle.sq_drive.specs.Due.{Answer, due_from}
-use Rattle.sq_drive.specs.Answers.{IsPrefixText}
-use Rattle.sq_drive.specs.Driving.{BeginsAnswer, Completes, IsEventAt, history_text}
-use Rattle.sq_drive.proofs.ClassLemmas.{IsLineOf}
+use Rattle.sq_due.specs.Due.{Answer, due_from}
+use Rattle.sq_due.specs.Answers.{IsPrefixText}
+use Rattle.sq_drive.specs.Driving.{BeginsAnswer, Completes}
+use Rattle.sq_due.specs.Histories.{IsEventAt, history_text}
+use Rattle.sq_due.proofs.ClassLemmas.{IsLineOf}
 use Rattle.sq_top.proofs.HistoryLemmas.{beginning_of_history, drop_kept, drop_left, line_kept, line_left}
 use Rattle.sq_flow.proofs.EventLemmas.{lines-append, plans-append, drops-append}
 use Rattle.sq_words.proofs.Alls.{all_append}

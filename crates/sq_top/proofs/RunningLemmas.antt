@@ -13,18 +13,18 @@ use Rattle.sq_net.specs.SoundNetworks.{IsSound}
 use Rattle.sq_status.specs.StatusKinds.{is_refusal}
 use Rattle.sq_work.specs.FolderStates.{FolderState}
 use Rattle.sq_work.specs.Scripts.{AcceptedReplay, plain_args}
-use Rattle.sq_drive.specs.Answers.{IsPrefixText, IsWholeText}
+use Rattle.sq_due.specs.Answers.{IsPrefixText, IsWholeText}
 use Rattle.sq_drive.specs.Driving.{IsHalted}
-use Rattle.sq_drive.specs.Due.{due_of, replayed, turns_in, work_in}
+use Rattle.sq_due.specs.Due.{due_of, replayed, turns_in, work_in}
 use Rattle.sq_drive.specs.Failing.{CameTo, IsNewOf, IsOfRun}
-use Rattle.sq_drive.specs.Summaries.{summary_of}
-use Rattle.sq_drive.specs.Writing.{IsLost}
+use Rattle.sq_due.specs.Summaries.{summary_of}
+use Rattle.sq_due.specs.Writing.{IsLost}
 use Rattle.sq_drive.specs.Turns.{DriveFails}
 use Rattle.sq_drive.proofs.StopLemmas.{stop_map}
 use Rattle.sq_top.specs.declared.running.Report.{Report}
 use Rattle.sq_top.specs.declared.running.Report.TheVariants as report
 use Rattle.sq_top.specs.Ends.{DoesAll, DoesPart, KnowsDisk}
-use Rattle.sq_drive.specs.States.{DiskState, SinkState}
+use Rattle.sq_due.specs.States.{DiskState, SinkState}
 use Rattle.sq_top.specs.Outside.{Outside, outside}
 use Rattle.sq_top.specs.Running.{EndsEarly, IsReportedBy, WhoeverAsks}
 use Rattle.sq_top.specs.Texts.{BeginsSummary, IsPrefixOfDue, IsWholeOf, turns_for, work_for}

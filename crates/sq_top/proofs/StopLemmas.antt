@@ -8,7 +8,7 @@ use Rattle.sq_drive.specs.Stopping.{StopHasCause}
 use Rattle.sq_status.specs.StatusKinds.{is_refusal, is_plain_end, is_changed, is_garbled}
 use Rattle.sq_command.specs.declared.Command.{Command}
 use Rattle.sq_work.specs.Scripts.{AcceptedReplay}
-use Rattle.sq_drive.specs.Writing.{IsLost}
+use Rattle.sq_due.specs.Writing.{IsLost}
 use Rattle.sq_drive.proofs.DrivingLemmas.{not_too_much}
 use Rattle.sq_drive.proofs.StopLemmas.{lost_cut, lost_garbled, lost_stop, lost_unchanged, unchanged_garbled}
 use Rattle.sq_top.specs.Ends.{DoesPart, KnowsDisk}

@@ -8,14 +8,15 @@ use Rattle.sq_core.specs.declared.engine.Engine.{Engine}
 use Rattle.sq_core.specs.Runs.{fed_at, late_at_seat}
 use Rattle.sq_status.specs.declared.Status.{Status}
 use Rattle.sq_status.specs.declared.Status.TheVariants as status
-use Rattle.sq_drive.specs.declared.counting.Counts.{Counts}
+use Rattle.sq_due.specs.declared.counting.Counts.{Counts}
 use Rattle.sq_top.specs.Texts.{BeginsSummary, BeginsText}
-use Rattle.sq_drive.specs.Counting.{IsSummed, engine_summary}
+use Rattle.sq_due.specs.Counting.{engine_summary}
+use Rattle.sq_drive.specs.Summed.{IsSummed}
 use Rattle.sq_points.specs.Points.{drops_in}
-use Rattle.sq_drive.specs.Due.{answer_in, fed_in, late_counts}
-use Rattle.sq_drive.specs.Summaries.{summary_of, summary_text}
+use Rattle.sq_due.specs.Due.{answer_in, fed_in, late_counts}
+use Rattle.sq_due.specs.Summaries.{summary_of, summary_text}
 use Rattle.sq_top.proofs.EndLemmas.{appends_all, appends_begun, appends_none}
-use Rattle.sq_drive.proofs.SameNumbers.{same_numbers}
+use Rattle.sq_due.proofs.SameNumbers.{same_numbers}
 
 module _ (number rows : ℕ) (r : Replay) where
   -- nothing is written yet

@@ -16,7 +16,7 @@ use Rattle.sq_status.specs.declared.Status.TheVariants as status
 use Rattle.sq_command.specs.Commands.{command_in}
 use Rattle.sq_status.specs.Messages.{name_at, network_if_ok}
 use Rattle.sq_work.specs.Scripts.{Lookup, AcceptedReplay, Script, Reads, Done, Stops, accepted, after_words, go_on, outcome_of, readable, file_reads, script_of}
-use Rattle.sq_drive.specs.Due.{due_of, replayed}
+use Rattle.sq_due.specs.Due.{due_of, replayed}
 use Rattle.sq_work.specs.FolderStates.{FolderState}
 use Rattle.sq_work.specs.Reads.{GoesBy, IfAccepted, WhereTold, network_read}
 use Rattle.sq_drive.specs.Failing.{IsOfRun}
@@ -24,7 +24,7 @@ use Rattle.sq_top.specs.Ends.{DiskHolds, DoesAll, DoesNothing, DoesPart, Ends, F
 use Rattle.sq_top.specs.Outside.{Outside}
 use Rattle.sq_top.specs.Texts.{turns_for}
 use Rattle.sq_top.specs.ToldFolders.{EndsOver, FolderHasCause, HasFailedAt, MatchAccepted, NamesTold, looked_at, network_named}
-use Rattle.sq_drive.proofs.ClassLemmas.{TellsClasses}
+use Rattle.sq_due.proofs.ClassLemmas.{TellsClasses}
 use Rattle.sq_top.proofs.EndLemmas.{begun_nothing, replay_tells_classes}
 use Rattle.sq_top.proofs.ReadsLemmas.{Holds, HoldsFor, IsPartOf, IsRuleOf, is_rule, left_holds, script_holds}
 use Rattle.sq_reader.specs.Limits.{settings_limit}

@@ -21,8 +21,8 @@ use Rattle.sq_starts.specs.LastAggregates.{TimesAreStarts}
 use Rattle.sq_status.specs.declared.Status.{Status}
 use Rattle.sq_status.specs.declared.Status.TheVariants as status
 use Rattle.sq_work.specs.Scripts.{AcceptedReplay}
-use Rattle.sq_drive.specs.Due.{due_of, ended_in, plan_text, replayed}
-use Rattle.sq_drive.specs.Answers.{IsPrefixText, IsWholeText}
+use Rattle.sq_due.specs.Due.{due_of, ended_in, plan_text, replayed}
+use Rattle.sq_due.specs.Answers.{IsPrefixText, IsWholeText}
 
 -- the tuples whose batch isn't recorded of the drop above, where there is one
 abbrev pub unrecorded : (ℕ → List ℕ) → Option (ℕ × DropPoint) → List Tuple → List Tuple

@@ -1,7 +1,7 @@
 -- What stands outside a call at one moment, before it or after it.
 use Rattle.std.specs.Prelude.{ℕ}
 use Rattle.sq_work.specs.FolderStates.{FolderState}
-use Rattle.sq_drive.specs.States.{DiskState, SinkState}
+use Rattle.sq_due.specs.States.{DiskState, SinkState}
 
 pub record Outside : Type 0 where
   pub folder : FolderState

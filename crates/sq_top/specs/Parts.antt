@@ -10,7 +10,7 @@ use Rattle.sq_tap.specs.Names.{stream_named}
 use Rattle.sq_tap.specs.Parts.{full_output, tuples_since}
 use Rattle.sq_command.specs.declared.Command.TheVariants as command
 use Rattle.sq_command.specs.Commands.{command_in}
-use Rattle.sq_drive.specs.Due.{due_of, outputs_of}
+use Rattle.sq_due.specs.Due.{due_of, outputs_of}
 use Rattle.sq_work.specs.Reads.{GoesBy}
 use Rattle.sq_work.specs.Scripts.{Done, AcceptedReplay, script_of}
 use Rattle.sq_work.specs.Taps.{first_tick}

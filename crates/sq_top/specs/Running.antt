@@ -13,7 +13,7 @@ use Rattle.sq_drive.specs.Stopping.{StopHasCause}
 use Rattle.sq_top.specs.declared.running.Report.{Report}
 use Rattle.sq_top.specs.declared.running.Report.TheVariants as report
 use Rattle.sq_top.specs.Ends.{DoesPart, KnowsDisk}
-use Rattle.sq_drive.specs.States.{DiskState, SinkState}
+use Rattle.sq_due.specs.States.{DiskState, SinkState}
 use Rattle.sq_top.specs.Outside.{Outside, outside}
 use Rattle.sq_top.specs.Texts.{turns_for}
 

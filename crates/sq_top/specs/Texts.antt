@@ -10,9 +10,9 @@ use Rattle.sq_audit.specs.Audits.{audit_of}
 use Rattle.sq_audit.specs.VerdictLines.{verdict_line}
 use Rattle.sq_command.specs.Commands.{runs_engine}
 use Rattle.sq_work.specs.Scripts.{AcceptedReplay}
-use Rattle.sq_drive.specs.Due.{due_of, replayed, turns_in, work_in}
-use Rattle.sq_drive.specs.Summaries.{summary_of}
-use Rattle.sq_drive.specs.Answers.{IsWholeText, IsPrefixText}
+use Rattle.sq_due.specs.Due.{due_of, replayed, turns_in, work_in}
+use Rattle.sq_due.specs.Summaries.{summary_of}
+use Rattle.sq_due.specs.Answers.{IsWholeText, IsPrefixText}
 
 -- the line of the verdict on the text
 abbrev pub verdict_text : AcceptedReplay → List ℕ

@@ -16,7 +16,7 @@ ghost use Rattle.std.specs.Prelude.{map};
 ghost use Rattle.std.specs.String.{string_bytes};
 ghost use Rattle.sq_top.specs.Ends.{CallEnds};
 ghost use Rattle.sq_work.specs.FolderStates.{folder_state};
-ghost use Rattle.sq_drive.specs.States.{disk_state, sink_state};
+ghost use Rattle.sq_due.specs.States.{disk_state, sink_state};
 ghost use Rattle.sq_top.specs.Outside.{outside};
 
 mod auditing;

@@ -1,6 +1,6 @@
 use Rattle.std.proofs.Common.{arith, refl}
 use Rattle.sq_status.specs.Messages.{source_told}
-use Rattle.sq_drive.specs.States.{sink_state}
+use Rattle.sq_due.specs.States.{sink_state}
 use Rattle.sq_top.proofs.EndLemmas.{told_ends, told_nothing}
 use Rattle.sq_top.proofs.StopLemmas.{told_plain, told_refused}
 use Rattle.sq_top.proofs.run_words.Goals as goal

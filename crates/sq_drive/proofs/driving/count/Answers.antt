@@ -1,12 +1,12 @@
 use Rattle.std.proofs.Common.{None, [], inl, refl}
 use Rattle.sq_pool.proofs.TrustLemmas.{IsLater-refl}
 use Rattle.sq_status.specs.declared.Status.TheVariants as status
-use Rattle.sq_drive.specs.States.{unseen}
+use Rattle.sq_due.specs.States.{unseen}
 use Rattle.sq_drive.specs.Turns.{run_state}
 use Rattle.sq_drive.proofs.OutcomeLemmas.{count_ends, cut_always, drive_fails}
 use Rattle.sq_drive.proofs.StopLemmas.{lost_cut}
 use Rattle.sq_drive.proofs.TurnLemmas.{fails_lost, goes_none}
-use Rattle.sq_drive.proofs.WritingLemmas.{lost_at_once}
+use Rattle.sq_due.proofs.WritingLemmas.{lost_at_once}
 use Rattle.sq_drive.proofs.driving.count.Goals as goal
 
 -- memory ran out before the first turn

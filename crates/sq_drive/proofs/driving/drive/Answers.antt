@@ -1,8 +1,8 @@
 use Rattle.std.proofs.Common.{[], sym}
-use Rattle.sq_drive.specs.States.{sink_state}
+use Rattle.sq_due.specs.States.{sink_state}
 use Rattle.sq_drive.specs.Turns.{run_state}
 use Rattle.sq_drive.proofs.OutcomeLemmas.{drive_ends, drive_fails}
-use Rattle.sq_drive.proofs.WritingLemmas.{appended-nil}
+use Rattle.sq_due.proofs.WritingLemmas.{appended-nil}
 use Rattle.sq_drive.proofs.driving.drive.Goals as goal
 
 pub returns-in-Ok-clause-ok : goal.returns-in-Ok-clause-ok

@@ -3,7 +3,7 @@ use Rattle.sq_drive.specs.Turns.{TurnFails, moment}
 use Rattle.sq_drive.proofs.DrivingLemmas.{if_err}
 use Rattle.sq_drive.proofs.StopLemmas.{falls_lower}
 use Rattle.sq_drive.proofs.TurnLemmas.{fails_here, goes_here, turn_fails, turn_lost, turn_on}
-use Rattle.sq_drive.proofs.WritingLemmas.{on_ok_any}
+use Rattle.sq_due.proofs.WritingLemmas.{on_ok_any}
 use Rattle.sq_drive.proofs.driving.step_once.Goals as goal
 
 pub show-requires : goal.show-requires

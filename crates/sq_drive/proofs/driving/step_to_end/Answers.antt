@@ -3,7 +3,8 @@ use Rattle.sq_pool.specs.Trust.{known}
 use Rattle.sq_net.specs.declared.Network.{Network}
 use Rattle.sq_drive.specs.Turns.{TurnFails, TurnsOn, moment}
 use Rattle.sq_drive.proofs.LeftLemmas.{rest_shown}
-use Rattle.sq_drive.proofs.StopLemmas.{lost_cut, lost_later}
+use Rattle.sq_drive.proofs.StopLemmas.{lost_cut}
+use Rattle.sq_due.proofs.WritingLemmas.{lost_later}
 use Rattle.sq_drive.proofs.TurnLemmas.{fails_lost, keeps_none, keeps_then, turns_fail, turns_none, turns_then}
 use Rattle.sq_drive.proofs.driving.step_to_end.Goals as goal
 

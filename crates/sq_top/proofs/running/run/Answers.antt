@@ -6,11 +6,11 @@ use Rattle.sq_command.specs.declared.Command.TheVariants as command
 use Rattle.sq_command.specs.Commands.{command_in}
 use Rattle.sq_work.specs.Scripts.{script_of}
 use Rattle.sq_work.specs.FolderStates.{folder_state}
-use Rattle.sq_drive.specs.States.{disk_state}
+use Rattle.sq_due.specs.States.{disk_state}
 use Rattle.sq_top.specs.declared.running.Report.TheVariants as report
 use Rattle.sq_top.specs.Running.{IsReportedBy}
 use Rattle.sq_top.proofs.EndLemmas.{prepared_made, stopped_ends}
-use Rattle.sq_drive.proofs.WritingLemmas.{on_ok_any}
+use Rattle.sq_due.proofs.WritingLemmas.{on_ok_any}
 use Rattle.sq_top.proofs.ReadsLemmas.{leads_self}
 use Rattle.sq_work.proofs.StoppedLemmas.{stopped_memory, stopped_usage}
 use Rattle.sq_top.proofs.TrainLemmas.{audit_named, command_least, gen_rows, tap_tick}

@@ -3,12 +3,11 @@ use Rattle.sq_net.specs.declared.Network.{Network}
 use Rattle.sq_pool.specs.Trust.{known}
 use Rattle.sq_work.specs.AcceptedViews.{replay_of}
 use Rattle.sq_work.specs.FolderStates.{FolderState}
-use Rattle.sq_drive.specs.Due.{replayed}
+use Rattle.sq_due.specs.Due.{replayed}
 use Rattle.sq_drive.proofs.DrivingLemmas.{if_err}
-use Rattle.sq_drive.proofs.StopLemmas.{lost_later}
-use Rattle.sq_drive.proofs.WritingLemmas.{on_ok}
+use Rattle.sq_due.proofs.WritingLemmas.{lost_later, on_ok}
 use Rattle.sq_top.specs.declared.running.Report.TheVariants as report
-use Rattle.sq_drive.specs.States.{SinkState, disk_state, sink_state}
+use Rattle.sq_due.specs.States.{SinkState, disk_state, sink_state}
 use Rattle.sq_top.specs.Outside.{outside}
 use Rattle.sq_top.proofs.ReplayLemmas.{replay_cut, replay_ends, replay_halts}
 use Rattle.sq_top.proofs.RunningLemmas.{EarlyFor, part_waits, run_lost, run_stopped, run_whole}

@@ -4,7 +4,7 @@ use Rattle.sq_command.specs.Commands.{command_in}
 use Rattle.sq_status.specs.StatusKinds.{is_refusal}
 use Rattle.sq_work.specs.AcceptedViews.{replay_of}
 use Rattle.sq_top.proofs.EndLemmas.{answered_cut, answered_ok, stopped_ends}
-use Rattle.sq_drive.specs.States.{disk_state, sink_state}
+use Rattle.sq_due.specs.States.{disk_state, sink_state}
 use Rattle.sq_top.proofs.RunningLemmas.{never_refused, reported_runs, reported_some}
 use Rattle.sq_top.proofs.running.run_prepared.Goals as goal
 

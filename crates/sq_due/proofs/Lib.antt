@@ -1,0 +1,11 @@
+pub mod ClassLemmas
+pub mod CountLemmas
+pub mod DueLemmas
+pub mod DueWords
+pub mod LineLemmas
+pub mod OrderWords
+pub mod Rows
+pub mod SortedLines
+pub mod TextLemmas
+pub mod WritingLemmas
+pub mod SameNumbers
