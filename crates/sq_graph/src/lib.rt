@@ -53,8 +53,8 @@ fn push_many(givers: &mut Vec<Option<u32>>, giver: Option<u32>, many: u32) -> Re
     Ok(())
 }
 
-// The box that gives each stream; none gives a source's.
-fn givers_of(alloc: Global, w: &Wiring) -> Result<Vec<Option<u32>>, AllocError>
+/// The box that gives each stream; none gives a source's.
+pub fn givers_of(alloc: Global, w: &Wiring) -> Result<Vec<Option<u32>>, AllocError>
     requires { length w.now.boxes < 2 ^ 32 }
     ensures { IfOk result (λ givers. givers.items ≡ map giver_of (producers_of w.now)) }
 {
