@@ -1,27 +1,19 @@
 -- What a table of nodes stands for.
-use Rattle.std.specs.Prelude.{◌≡◌, ℕ, zero, suc, ◌<◌, List, [], ◌∷◌, map, length, Option, Some, None, slice_index_or, slice_set, refl}
+use Rattle.std.specs.Prelude.{◌≡◌, ℕ, zero, suc, ◌<◌, List, [], ◌∷◌, map, length, drop, Option, Some, None, slice_index_or, slice_set, refl}
 use Rattle.std.specs.Coded.{Coded, code_by, coded×, coded_ℕ, coded_list}
+use Rattle.sq_words.specs.Lists.{nth}
 use Rattle.sq_link.specs.declared.table.ListNode.{ListNode}
 use Rattle.sq_link.specs.declared.table.Ends.{Ends}
-use Rattle.sq_link.specs.ChainLists.{Chained, list_at, StandsIn, Apart, head_or}
+use Rattle.sq_link.specs.ChainLists.{Chained, StandsIn, Apart, head_or}
 
 -- the lists of a table, and how many nodes it has
 pub record Linked : Type 0 where
   pub lists : List (List ℕ)
   pub nodes : ℕ
 
--- the first of some lists, and the others
-abbrev pub front_of : List (List ℕ) → List ℕ
-front_of [] = []
-front_of (xs ∷ lists) = xs
-
-abbrev pub other_lists : List (List ℕ) → List (List ℕ)
-other_lists [] = []
-other_lists (xs ∷ lists) = lists
-
 -- lists of which the first is the free list
 abbrev pub chained : Linked → Chained
-chained v = record { lists = other_lists v.lists; free = front_of v.lists; nodes = v.nodes }
+chained v = record { lists = drop 1 v.lists; free = nth v.lists 0; nodes = v.nodes }
 
 abbrev pub linked_code : Coded Linked
 linked_code = code_by (List (List ℕ) × ℕ) (coded× (coded_list (coded_list coded_ℕ)) coded_ℕ)
@@ -70,12 +62,12 @@ pub record IsLinked (nodes : List ListNode) (l : ℕ) (ends : Ends) (xs : List �
 -- a node stands in the list that it names
 abbrev pub IsHome : ℕ → List (List ℕ) → Option ℕ → Type 0
 IsHome n lists None = Unit {0}
-IsHome n lists (Some l) = (l < length lists) × StandsIn n (list_at lists l)
+IsHome n lists (Some l) = (l < length lists) × StandsIn n (nth lists l)
 
 -- the table stands for these lists
 pub record AreLinked (nodes : List ListNode) (ends : List Ends) (lists : List (List ℕ)) : Type 0 where
   pub many : length lists ≡ length ends
-  pub each : (l : ℕ) → l < length ends → IsLinked nodes l (ends_at ends l) (list_at lists l)
+  pub each : (l : ℕ) → l < length ends → IsLinked nodes l (ends_at ends l) (nth lists l)
   pub homes : (n : ℕ) → n < length nodes → IsHome n lists (node_at nodes n).list
 
 -- the nodes, where the one at a place has another before or after it
