@@ -8,10 +8,11 @@ ghost use Rattle.sq_points.specs.Points.{points_of};
 ghost use Rattle.sq_model.specs.GivenLevels.{LevelsAre};
 ghost use Rattle.sq_model.specs.KnownStreams.{arc_in, stream_at_place, IsSafe, IsKnown};
 
-use crate::arcs::{copies, streams_on_arcs};
+use crate::arcs::copies;
 use crate::boxes::stream_in;
 use crate::epochs::levels_of;
 use crate::streams::full_streams;
+use sq_graph::arc_streams;
 use sq_net::Network;
 use sq_place::{DropAt, DropPoint};
 use sq_plan::Capacities;
@@ -66,7 +67,7 @@ pub(crate) fn known_of(
     let levels = levels_in(alloc, n, sources, &points, c)?;
     Ok(Known {
         streams: full_streams(alloc, n, copies(alloc, sources)?)?,
-        arcs: streams_on_arcs(alloc, &n.wires)?,
+        arcs: arc_streams(alloc, &n.wires)?,
         points,
         levels,
         seed,
