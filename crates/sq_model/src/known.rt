@@ -9,7 +9,6 @@ ghost use Rattle.sq_model.specs.GivenLevels.{LevelsAre};
 ghost use Rattle.sq_model.specs.KnownStreams.{arc_in, stream_at_place, IsSafe, IsKnown};
 
 use crate::arcs::copies;
-use crate::boxes::stream_in;
 use crate::epochs::levels_of;
 use crate::streams::full_streams;
 use sq_graph::arc_streams;
@@ -18,7 +17,7 @@ use sq_place::{DropAt, DropPoint};
 use sq_plan::Capacities;
 use sq_points::{network_planner, points_in};
 use sq_road::Levels;
-use sq_value::Tuple;
+use sq_value::{Tuple, stream_in};
 use std::alloc::{AllocError, Global};
 
 /// The full streams of a replay, the stream of each arc, the drop points, the levels and the seed.
