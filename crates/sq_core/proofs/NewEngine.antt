@@ -50,7 +50,8 @@ use Rattle.sq_flow.specs.declared.seats.Seat.{Seat}
 use Rattle.sq_flow.specs.Seats.{rest_at, decides_at, lost_at, taken_at, fed_items_at, position_at, done_at, holds_at}
 use Rattle.sq_flow.specs.Starts.{IsNewSeat, IsNewFlow}
 use Rattle.sq_flow.specs.Flows.{tuples_to_come, RiseFrom, world_of, fed_on, left_on, fed_at_last, items_in, sum_below, taken_in_all}
-use Rattle.sq_flow.specs.Plans.{IsPlanned, arrivals, last_arrival, plans_left}
+use Rattle.sq_plan.specs.Arrivals.{arrivals}
+use Rattle.sq_flow.specs.Plans.{IsPlanned, last_arrival, plans_left}
 use Rattle.sq_flow.specs.Readiness.{stands, IsReady}
 use Rattle.sq_flow.specs.Engines.{seat_number, IsEngine}
 use Rattle.sq_flow.specs.Wiring.{net_of, arcs_read, IsOwn}

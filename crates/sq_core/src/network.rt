@@ -1,7 +1,7 @@
 //! The wires of a network.
 
-ghost use Rattle.std.specs.Prelude.{◌≡◌, ◌+◌, ◌<◌, ◌^◌, ◌++◌, ◌∷◌, [], true, length, map, IfOk, OnOk};
-ghost use Rattle.std.specs.List.{All, flat_map};
+ghost use Rattle.std.specs.Prelude.{◌≡◌, ◌+◌, ◌<◌, ◌^◌, ◌∷◌, [], true, length, map, IfOk, OnOk};
+ghost use Rattle.std.specs.List.{All};
 ghost use Rattle.sq_graph.specs.Wires.{producer_of, arcs_of, input_arcs_of};
 ghost use Rattle.sq_graph.specs.Order.{is_there};
 ghost use Rattle.sq_place.specs.Places.{stream_on, box_of};
@@ -17,23 +17,11 @@ ghost use Rattle.sq_core.specs.Table.{kinds_on, place_feed, same_box, turned, wi
 use crate::join::{Feed, copy_kinds, wires_of};
 use crate::points::{drop_on, is_below};
 use sq_flow::Wires;
-use sq_graph::{Producer, arc_of, box_order, given_by, output_arc};
+use sq_graph::{Producer, arc_of, arc_streams, box_order, given_by, output_arc};
 use sq_net::Network;
 use sq_place::{DropAt, DropPoint};
 use sq_value::{Kind, ListOf};
 use std::alloc::{AllocError, Global};
-
-/// The streams of the arcs, by number.
-fn arc_streams(alloc: Global, n: &Network) -> Result<Vec<u32>, AllocError>
-    ensures { IfOk result (λ v. v.items ≡ flat_map (λ b. b.inputs) n.now.wires.boxes ++ n.now.wires.outputs) }
-{
-    let mut streams = Vec::new(alloc);
-    for b in n.wires.boxes.as_slice() {
-        streams.extend_from_slice(b.inputs.as_slice())?;
-    }
-    streams.extend_from_slice(n.wires.outputs.as_slice())?;
-    Ok(streams)
-}
 
 /// What the wires of a network are made from: the network, its drop points, the streams of its arcs, and the replay's number.
 #[derive(Drop)]
@@ -290,7 +278,7 @@ pub(crate) fn network_wires(
 {
     let boxes = n.boxes.as_slice().len() as u32;
     let first = boxes + points.len() as u32;
-    let streams = arc_streams(alloc, n)?;
+    let streams = arc_streams(alloc, &n.wires)?;
     let it = Topology {
         n,
         points,

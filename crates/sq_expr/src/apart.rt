@@ -15,18 +15,18 @@ use std::alloc::{AllocError, Global};
 use std::marker::Model;
 
 /// An expression that is worked out in one of the two tuples of a pair. Contracts see its tree.
-pub struct Part {
+pub struct SideExpression {
     root: Box<Tree>,
 }
 
 /// By hand, as that of a checked expression.
-impl Drop for Part {
+impl Drop for SideExpression {
     fn drop(self) {
-        let Part { root: _root } = self;
+        let SideExpression { root: _root } = self;
     }
 }
 
-impl Model for Part {
+impl Model for SideExpression {
     ghost use Rattle.sq_expr.specs.Trees.{Expr as TreeExpr, expr_code};
     ghost use Rattle.sq_expr.specs.TreeView.{tree_of as seen};
 
@@ -37,7 +37,7 @@ impl Model for Part {
     ghost view = { λ a. seen a.root.value };
 }
 
-impl Part {
+impl SideExpression {
     /// A number that stands for its value in a tuple, the same for equal values. There is none for Null.
     pub fn number(&self, t: &Tuple) -> Option<i64>
         ensures { result ≡ number_for (value_of self.now t.now) }
@@ -49,8 +49,8 @@ impl Part {
 /// Expressions over the fields of left tuples and as many over those of right ones.
 #[derive(Drop)]
 pub struct EqualParts {
-    pub left: Vec<Part>,
-    pub right: Vec<Part>,
+    pub left: Vec<SideExpression>,
+    pub right: Vec<SideExpression>,
 }
 
 /// Whether all fields that an expression reads stand from one place on and before another; the time isn't read.
@@ -106,9 +106,9 @@ fn push_sides(
 {
     if reads_within(left, 0, width) && reads_within(right, width, usize::MAX) {
         let root = copy_tree(alloc, left)?;
-        parts.left.push(Part { root })?;
+        parts.left.push(SideExpression { root })?;
         let root = without_first(alloc, right, width)?;
-        parts.right.push(Part { root })?;
+        parts.right.push(SideExpression { root })?;
     }
     Ok(())
 }

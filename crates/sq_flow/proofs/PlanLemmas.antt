@@ -13,7 +13,8 @@ use Rattle.sq_left.proofs.MergeLemmas.{eqb-not}
 use Rattle.sq_plan.specs.PlanRows.{is_quiet}
 use Rattle.sq_replay.specs.RecordedTuples.{Recorded}
 use Rattle.sq_flow.specs.Flows.{tuples_to_come, RiseFrom}
-use Rattle.sq_flow.specs.Plans.{arrivals, last_arrival, add_counts}
+use Rattle.sq_plan.specs.Arrivals.{arrivals}
+use Rattle.sq_flow.specs.Plans.{last_arrival, add_counts}
 use Rattle.sq_flow.specs.Sources.{BeginsNotBefore}
 use Rattle.sq_words.proofs.Ranges.{range_split}
 use Rattle.sq_words.proofs.Numbers.{eqb_true}

@@ -18,7 +18,8 @@ use Rattle.sq_replay.specs.RecordedTuples.{Recorded}
 use Rattle.sq_flow.specs.declared.flow.Flow.{Flow}
 use Rattle.sq_flow.specs.Closes.{ClosesSome, ClosesAll}
 use Rattle.sq_flow.specs.Flows.{IsFlow, RiseFrom, tuples_to_come, to_release}
-use Rattle.sq_flow.specs.Plans.{arrivals, last_arrival, add_counts, counts_of, IsPlanned, plans_left, plans_of, PlansPrefix}
+use Rattle.sq_plan.specs.Arrivals.{arrivals}
+use Rattle.sq_flow.specs.Plans.{last_arrival, add_counts, counts_of, IsPlanned, plans_left, plans_of, PlansPrefix}
 use Rattle.sq_flow.specs.Sources.{BeginsLeast, IsNextSource}
 use Rattle.sq_flow.proofs.PlanLemmas.{div-low, plans-cut, streams, rise-later, add-zeros, zeros-more, arrivals-len, quiet-zeros, none-arrive, arrivals-other, counted-one, last-taken}
 use Rattle.std.proofs.lemmas.Map.Views.{exact_unsigned_eq}

@@ -17,7 +17,8 @@ use Rattle.sq_flow.specs.Wiring.{net_of, from_of, IsOwn, IsShaped}
 use Rattle.sq_flow.specs.Seats.{rest_at, done_at, holds_at, IsSeat, Owns}
 use Rattle.sq_flow.specs.Flows.{IsFlow, RiseFrom, to_release}
 use Rattle.sq_flow.specs.Starts.{IsNewSeat}
-use Rattle.sq_flow.specs.Plans.{arrivals, last_arrival, add_counts, streams_left, counts_of, IsPlanned, plans_left}
+use Rattle.sq_plan.specs.Arrivals.{arrivals}
+use Rattle.sq_flow.specs.Plans.{last_arrival, add_counts, streams_left, counts_of, IsPlanned, plans_left}
 use Rattle.sq_flow.proofs.PlanLemmas.{add-zeros, arrivals-len, flat-same}
 use Rattle.sq_words.proofs.Lists.{zeros_at}
 

@@ -3,19 +3,16 @@
 --     IsPlanned all flow    where `all` are the tuples of each source in every epoch, the levels of the closed epochs are planned from them
 --     plans_left flow       the plans still to be shown
 use Rattle.std.specs.Prelude.{◌≡◌, ℕ, ◌+◌, ◌-◌, ◌/◌, ◌≤◌, ◌==◌, if◌then◌else◌, List, [], ◌∷◌, ◌++◌, map}
-use Rattle.std.specs.List.{flat_map, range_with_len, count_by}
+use Rattle.std.specs.List.{flat_map, range_with_len}
 use Rattle.sq_value.specs.declared.Tuple.{Tuple}
 use Rattle.sq_words.specs.Lists.{max_by, IsPrefixOf}
 use Rattle.sq_road.specs.Levels.{LevelTable, AgreesWith}
 use Rattle.sq_plan.specs.declared.closing.Shown.{Shown}
+use Rattle.sq_plan.specs.Arrivals.{arrivals}
 use Rattle.sq_plan.specs.PlanRows.{level_for, shown_after}
 use Rattle.sq_oper.specs.declared.outs.Event.{Event}
 use Rattle.sq_oper.specs.declared.outs.Event.TheVariants.{Line, Dropped, Plan}
 use Rattle.sq_flow.specs.declared.flow.Flow.{Flow}
-
--- how many tuples of each stream arrive in an epoch, where an epoch lasts so many ticks
-abbrev pub arrivals : ℕ → List (List Tuple) → ℕ → List ℕ
-arrivals epoch streams e = map (count_by (λ x. x.time / epoch == e)) streams
 
 -- the last epoch in which a tuple arrives
 abbrev pub last_arrival : ℕ → List (List Tuple) → ℕ

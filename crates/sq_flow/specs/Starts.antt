@@ -19,7 +19,8 @@ use Rattle.sq_flow.specs.declared.wires.Wires.{Wires}
 use Rattle.sq_flow.specs.declared.flow.Flow.{Flow}
 use Rattle.sq_flow.specs.declared.seats.Seat.{Seat}
 use Rattle.sq_flow.specs.Flows.{tuples_to_come, RiseFrom, IsFlow}
-use Rattle.sq_flow.specs.Plans.{IsPlanned, arrivals, last_arrival, plans_left}
+use Rattle.sq_plan.specs.Arrivals.{arrivals}
+use Rattle.sq_flow.specs.Plans.{IsPlanned, last_arrival, plans_left}
 use Rattle.sq_flow.specs.Seats.{FitsArcs, holds_at}
 use Rattle.sq_flow.specs.Wiring.{net_of, IsOwn, IsShaped}
 

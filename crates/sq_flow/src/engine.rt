@@ -63,7 +63,8 @@ fn seat_number(ops: u32, actor: u32) -> u32
 
 impl<O: Operator + Drop> Engine<O> {
     ghost use Rattle.sq_flow.specs.Flows.{IsFlow, HoldsItems, items_in, lines_left, decisions_left, fed_at_last, lost_at_last, work_at_last, taken_in_all, left_on};
-    ghost use Rattle.sq_flow.specs.Plans.{IsPlanned, arrivals, last_arrival, plans_left};
+    ghost use Rattle.sq_plan.specs.Arrivals.{arrivals};
+    ghost use Rattle.sq_flow.specs.Plans.{IsPlanned, last_arrival, plans_left};
     ghost use Rattle.sq_flow.specs.Stepping.{stage, StepErr};
     ghost use Rattle.sq_flow.specs.EngineSteps.{EngineOk};
     ghost use Rattle.sq_flow.specs.Engines.{IsEngine, MayLook, Looked, AllDone, newly_ready, readers_of};

@@ -7,7 +7,7 @@
 #![tactic(auto)]
 
 ghost use Rattle.std.specs.Prelude.{◌≡◌, ℕ, ◌+◌, ◌<◌, ◌≤◌, ◌^◌, ◌++◌, Some, None, Option, length, map, replicate, slice_get, IfOk, IfErr, OnOk, true, false};
-ghost use Rattle.std.specs.List.{list_all, list_any, find, sum_by};
+ghost use Rattle.std.specs.List.{flat_map, list_all, list_any, find, sum_by};
 ghost use Rattle.sq_words.specs.Lists.{numbers_to};
 ghost use Rattle.sq_graph.specs.Wires.{producer_of, producers_of, stream_at, arc_at, output_arc_at};
 ghost use Rattle.sq_graph.specs.Order.{giver_of, is_given_by, is_fed_by, could_be_next, could_be_reached, order_of, ComesAfterInputs, LiesOnCycle, IsLeastOnCycle, IsWired};
@@ -53,8 +53,8 @@ fn push_many(givers: &mut Vec<Option<u32>>, giver: Option<u32>, many: u32) -> Re
     Ok(())
 }
 
-// The box that gives each stream; none gives a source's.
-fn givers_of(alloc: Global, w: &Wiring) -> Result<Vec<Option<u32>>, AllocError>
+/// The box that gives each stream; none gives a source's.
+pub fn givers_of(alloc: Global, w: &Wiring) -> Result<Vec<Option<u32>>, AllocError>
     requires { length w.now.boxes < 2 ^ 32 }
     ensures { IfOk result (λ givers. givers.items ≡ map giver_of (producers_of w.now)) }
 {
@@ -299,6 +299,18 @@ pub fn arc_of(w: &Wiring, at: u32, port: u32) -> u32
     ensures { result ≡ arc_at w.now at port }
 {
     inputs_in(&w.boxes.as_slice()[..at as usize]) + port
+}
+
+/// The streams of the arcs, by number: those that the boxes take, then those that the outputs show.
+pub fn arc_streams(alloc: Global, w: &Wiring) -> Result<Vec<u32>, AllocError>
+    ensures { IfOk result (λ v. v.items ≡ flat_map (λ b. b.inputs) w.now.boxes ++ w.now.outputs) }
+{
+    let mut streams = Vec::new(alloc);
+    for b in w.boxes.as_slice() {
+        streams.extend_from_slice(b.inputs.as_slice())?;
+    }
+    streams.extend_from_slice(w.outputs.as_slice())?;
+    Ok(streams)
 }
 
 /// The number of the arc that enters an output.

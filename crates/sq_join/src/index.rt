@@ -6,7 +6,7 @@ ghost use Rattle.sq_join.specs.Codes.{tuple_code, row_at_code};
 ghost use Rattle.sq_join.specs.Indexes.{belongs_at, positions_in, positions_in_row, row_count, IsIndex, IsOfSameKeys};
 
 use crate::keys::tuple_code;
-use sq_expr::Part;
+use sq_expr::SideExpression;
 use sq_value::Tuple;
 use std::alloc::{AllocError, Global};
 use std::collections::VecDeque;
@@ -17,7 +17,7 @@ use std::collections::VecDeque;
 #[derive(Drop)]
 pub(crate) struct Index {
     places: Vec<u32>,
-    parts: Vec<Part>,
+    parts: Vec<SideExpression>,
     width: usize,
     pub(crate) first: usize,
     pub(crate) rows: Vec<VecDeque<usize>>,
@@ -37,7 +37,12 @@ fn bare_rows(alloc: Global, count: usize) -> Result<Vec<VecDeque<usize>>, AllocE
 
 impl Index {
     /// The index of a side of which nothing is held, by the key at these places and of these expressions.
-    pub(crate) fn new(alloc: Global, places: Vec<u32>, parts: Vec<Part>, width: usize) -> Index
+    pub(crate) fn new(
+        alloc: Global,
+        places: Vec<u32>,
+        parts: Vec<SideExpression>,
+        width: usize,
+    ) -> Index
         ensures keys { (result.places ≡ places) × ((result.parts ≡ parts) × (result.width ≡ width)) }
         ensures index { IsIndex [] result }
     {

@@ -9,7 +9,7 @@ ghost use Rattle.sq_join.specs.EqualFields.{AreKeys};
 ghost use Rattle.sq_pairs.specs.EqualPlaces.{Equates};
 ghost use Rattle.sq_join.specs.Codes.{tuple_code, code_with_all, key_code, has_null, lone_number};
 
-use sq_expr::Part;
+use sq_expr::SideExpression;
 use sq_groups::Picked;
 use sq_pairs::Condition;
 use sq_value::{Tuple, Value};
@@ -118,7 +118,7 @@ fn code_at(places: &[u32], x: &Tuple) -> Option<u64>
 }
 
 /// A code with the numbers that stand for the values of some expressions, unless one is Null.
-fn code_with_all(code: u64, parts: &[Part], x: &Tuple) -> Option<u64>
+fn code_with_all(code: u64, parts: &[SideExpression], x: &Tuple) -> Option<u64>
     ensures { result ≡ code_with_all (Some code) (numbers_for parts.now x.now) }
 {
     match parts {
@@ -136,7 +136,7 @@ fn code_with_all(code: u64, parts: &[Part], x: &Tuple) -> Option<u64>
 /// The code of a key in which are values of expressions.
 #[inline(never)]
 #[tactic(auto, using(crate::proofs::KeyLemmas::none_with_all))]
-fn code_with_parts(places: &[u32], parts: &[Part], x: &Tuple) -> Option<u64>
+fn code_with_parts(places: &[u32], parts: &[SideExpression], x: &Tuple) -> Option<u64>
     ensures { result ≡ tuple_code places.now parts.now x.now }
 {
     match code_at(places, x) {
@@ -148,7 +148,7 @@ fn code_with_parts(places: &[u32], parts: &[Part], x: &Tuple) -> Option<u64>
 /// The code of the key that a tuple has at some places and by some expressions, unless there is a Null in it: then it
 /// equals no other.
 #[inline(always)]
-pub(crate) fn tuple_code(places: &[u32], parts: &[Part], x: &Tuple) -> Option<u64>
+pub(crate) fn tuple_code(places: &[u32], parts: &[SideExpression], x: &Tuple) -> Option<u64>
     ensures { result ≡ tuple_code places.now parts.now x.now }
 {
     if parts.is_empty() {

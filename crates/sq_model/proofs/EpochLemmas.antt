@@ -5,7 +5,7 @@ use Rattle.std.proofs.lemmas.List.{drop_more}
 use Rattle.std.proofs.lemmas.List.Sums.{sum_by-cons}
 use Rattle.sq_value.specs.declared.Tuple.{Tuple}
 use Rattle.sq_plan.specs.PlanRows.{is_quiet}
-use Rattle.sq_model.specs.GivenLevels.{counted}
+use Rattle.sq_plan.specs.Arrivals.{arrivals}
 use Rattle.sq_model.specs.Epochs.{count_in}
 
 other : (a b : ℕ) → a < b → eqb b a ≡ false
@@ -29,12 +29,12 @@ not_counted epoch e ended first xs i x lt is after below skips =
 
 -- nor is an epoch less quiet where no tuple of a source arrives in it
 pub not_quiet_less : {X : Type 0} (f : X → List Tuple) (epoch e : ℕ) (xs : List X) (i : ℕ) (x : X) → i < length xs → x ≡ get_or xs i x → count_in epoch e (f x) ≡ 0
-    → is_quiet (counted epoch (map f (drop i xs)) e) ≡ is_quiet (counted epoch (map f (drop (i + 1) xs)) e)
+    → is_quiet (arrivals epoch (map f (drop i xs)) e) ≡ is_quiet (arrivals epoch (map f (drop (i + 1) xs)) e)
 not_quiet_less f epoch e xs i x lt is none =
-    ap (λ ys. is_quiet (counted epoch (map f ys) e)) (drop_more xs i x lt ∙ ap (λ y. y ∷ drop (i + 1) xs) (sym is))
-    ∙ ap (λ n. eqb n 0 && is_quiet (counted epoch (map f (drop (i + 1) xs)) e)) none
+    ap (λ ys. is_quiet (arrivals epoch (map f ys) e)) (drop_more xs i x lt ∙ ap (λ y. y ∷ drop (i + 1) xs) (sym is))
+    ∙ ap (λ n. eqb n 0 && is_quiet (arrivals epoch (map f (drop (i + 1) xs)) e)) none
 
 -- one more source counted
 pub counted_more : {X : Type 0} (f : X → List Tuple) (epoch e : ℕ) (xs : List X) (i : ℕ) (x : X) → i < length xs → x ≡ get_or xs i x
-    → counted epoch (map f (drop i xs)) e ≡ count_in epoch e (f x) ∷ counted epoch (map f (drop (i + 1) xs)) e
-counted_more f epoch e xs i x lt is = ap (λ ys. counted epoch (map f ys) e) (drop_more xs i x lt ∙ ap (λ y. y ∷ drop (i + 1) xs) (sym is))
+    → arrivals epoch (map f (drop i xs)) e ≡ count_in epoch e (f x) ∷ arrivals epoch (map f (drop (i + 1) xs)) e
+counted_more f epoch e xs i x lt is = ap (λ ys. arrivals epoch (map f ys) e) (drop_more xs i x lt ∙ ap (λ y. y ∷ drop (i + 1) xs) (sym is))

@@ -1,8 +1,8 @@
 -- What is dropped, shown and kept, where the drop points and the levels are given.
 --     drops_at table seed w p b     batch b of drop w is dropped at the levels of a table
 --     record_by, needed_by          the record, and the bounds of what is needed, at these levels
-use Rattle.std.specs.Prelude.{◌≡◌, ℕ, ◌+◌, ◌-◌, ◌*◌, ◌/◌, ◌≤◌, ◌<◌, ◌^◌, ◌==◌, Bool, not, ◌&&◌, nat_lt, List, map, length}
-use Rattle.std.specs.List.{filter, count_by, AllByRecursion}
+use Rattle.std.specs.Prelude.{◌≡◌, ℕ, ◌+◌, ◌-◌, ◌*◌, ◌/◌, ◌≤◌, ◌<◌, ◌^◌, Bool, not, ◌&&◌, nat_lt, List, length}
+use Rattle.std.specs.List.{filter, AllByRecursion}
 use Rattle.sq_value.specs.declared.Tuple.{Tuple}
 use Rattle.sq_words.specs.Lists.{numbers_to, max_by, contains_number}
 use Rattle.sq_graph.specs.Wires.{producers_of, arcs_of}
@@ -58,7 +58,3 @@ IsAt n (at.Arc a) = a < length (arcs_of n.wires)
 pub record LevelsAre (table : LevelTable) (r : Replay) : Type 0 where
   pub epoch : table.epoch ≡ r.network.epoch
   pub agrees : AgreesWith table (shed.batch_level r)
-
--- how many tuples of each source arrive in an epoch of this length
-abbrev pub counted : ℕ → List (List Tuple) → ℕ → List ℕ
-counted epoch sources e = map (count_by (λ x. x.time / epoch == e)) sources

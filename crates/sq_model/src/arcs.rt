@@ -8,22 +8,10 @@ ghost use Rattle.sq_model.specs.PlacedNetworks.{IsPlaced};
 
 use crate::boxes::push_copies;
 use crate::streams::full_streams;
-use sq_graph::Wiring;
+use sq_graph::arc_streams;
 use sq_net::Network;
 use sq_value::Tuple;
 use std::alloc::{AllocError, Global};
-
-// The streams of all arcs: those that the boxes take, then those that the outputs show.
-pub(crate) fn streams_on_arcs(alloc: Global, w: &Wiring) -> Result<Vec<u32>, AllocError>
-    ensures { IfOk result (λ v. v.items ≡ map (λ a. a.stream) (arcs_of w.now)) }
-{
-    let mut streams = Vec::new(alloc);
-    for b in w.boxes.as_slice() {
-        streams.extend_from_slice(b.inputs.as_slice())?;
-    }
-    streams.extend_from_slice(w.outputs.as_slice())?;
-    Ok(streams)
-}
 
 pub(crate) fn copies(alloc: Global, streams: &[Vec<Tuple>]) -> Result<Vec<Vec<Tuple>>, AllocError>
     ensures { IfOk result (λ v. map (λ t. t.items) v.items ≡ map (λ t. t.items) streams.now) }
@@ -50,7 +38,7 @@ pub fn full(
     requires arc { arc < length (arcs_of n.now.wires) }
     ensures { IfOk result (λ v. v.items ≡ full_arc n.now (map (λ t. t.items) sources.now) arc) }
 {
-    let streams = streams_on_arcs(alloc, &n.wires)?;
+    let streams = arc_streams(alloc, &n.wires)?;
     let stream = streams[arc as usize];
     let mut full = full_streams(alloc, n, copies(alloc, sources)?)?;
     Ok(full.swap_remove(stream as usize))

@@ -11,18 +11,8 @@ ghost use Rattle.sq_model.specs.Unions.{tuple_sooner};
 use sq_join::join_list;
 use sq_lists::{aggregate_list, bsort_list, filter_list, map_list, resample_list};
 use sq_net::Body;
-use sq_value::{Tuple, copy_tuple};
+use sq_value::{Tuple, copy_tuple, stream_in};
 use std::alloc::{AllocError, Global};
-
-/// The stream of this number among some, or no tuples where there is none.
-pub fn stream_in(streams: &[Vec<Tuple>], stream: u32) -> &[Tuple]
-    ensures { result.now ≡ nth (map (λ v. v.items) streams.now) stream }
-{
-    match streams.get(stream as usize) {
-        Some(tuples) => tuples.as_slice(),
-        None => &[],
-    }
-}
 
 // The stream at an input of a box, or no tuples where it has no such input.
 fn taken<'a>(streams: &'a [Vec<Tuple>], inputs: &[u32], input: usize) -> &'a [Tuple]

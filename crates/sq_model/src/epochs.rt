@@ -2,7 +2,7 @@
 ghost use Rattle.std.specs.Prelude.{◌≡◌, ◌+◌, ◌/◌, ◌<◌, ◌≤◌, ◌^◌, map, IfOk};
 ghost use Rattle.sq_plan.specs.PlanRows.{level_for};
 ghost use Rattle.sq_road.specs.Levels.{AgreesWith};
-ghost use Rattle.sq_model.specs.GivenLevels.{counted};
+ghost use Rattle.sq_plan.specs.Arrivals.{arrivals};
 ghost use Rattle.sq_model.specs.Epochs.{count_in, NoneBetween, QuietBetween};
 
 use sq_plan::{Planner, close_epochs};
@@ -28,7 +28,7 @@ fn counts_in(
     e: u64,
 ) -> Result<Vec<u64>, AllocError>
     requires epoch { 1 ≤ epoch }
-    ensures { IfOk result (λ v. v.items ≡ counted epoch (map (λ t. t.items) sources.now) e) }
+    ensures { IfOk result (λ v. v.items ≡ arrivals epoch (map (λ t. t.items) sources.now) e) }
 {
     let mut counts = Vec::new(alloc);
     for source in sources {
@@ -86,7 +86,7 @@ pub(crate) fn levels_of(
     requires epoch { 1 ≤ epoch }
     ensures epoch { IfOk result (λ l. l.epoch ≡ epoch) }
     ensures closed { IfOk result (λ l. l.closed ≡ 2 ^ 40 + 1) }
-    ensures agrees { IfOk result (λ l. AgreesWith l (level_for planner.old (counted epoch (map (λ t. t.items) sources.now)))) }
+    ensures agrees { IfOk result (λ l. AgreesWith l (level_for planner.old (arrivals epoch (map (λ t. t.items) sources.now)))) }
 {
     let mut levels = Levels::new(alloc, epoch);
     let mut ended = 0;

@@ -8,16 +8,16 @@ ghost use Rattle.sq_points.specs.Points.{points_of};
 ghost use Rattle.sq_model.specs.GivenLevels.{LevelsAre};
 ghost use Rattle.sq_model.specs.KnownStreams.{arc_in, stream_at_place, IsSafe, IsKnown};
 
-use crate::arcs::{copies, streams_on_arcs};
-use crate::boxes::stream_in;
+use crate::arcs::copies;
 use crate::epochs::levels_of;
 use crate::streams::full_streams;
+use sq_graph::arc_streams;
 use sq_net::Network;
 use sq_place::{DropAt, DropPoint};
 use sq_plan::Capacities;
 use sq_points::{network_planner, points_in};
 use sq_road::Levels;
-use sq_value::Tuple;
+use sq_value::{Tuple, stream_in};
 use std::alloc::{AllocError, Global};
 
 /// The full streams of a replay, the stream of each arc, the drop points, the levels and the seed.
@@ -66,7 +66,7 @@ pub(crate) fn known_of(
     let levels = levels_in(alloc, n, sources, &points, c)?;
     Ok(Known {
         streams: full_streams(alloc, n, copies(alloc, sources)?)?,
-        arcs: streams_on_arcs(alloc, &n.wires)?,
+        arcs: arc_streams(alloc, &n.wires)?,
         points,
         levels,
         seed,

@@ -21,7 +21,6 @@ mod streams;
 
 pub use answers::{answer, dropped, work};
 pub use arcs::full;
-pub use boxes::stream_in;
 pub use laws::{
     full_streams_are_streams, full_streams_fit, full_streams_follow, late_tuples_are_the_rest,
     sound_is_placed,

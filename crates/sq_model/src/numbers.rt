@@ -5,10 +5,9 @@ ghost use Rattle.sq_words.specs.Lists.{numbers_to, nth};
 ghost use Rattle.sq_model.specs.FullCounts.{fed_from, late_from};
 ghost use Rattle.sq_model.specs.PlacedNetworks.{IsPlaced};
 
-use crate::boxes::stream_in;
 use sq_graph::stream_of;
 use sq_net::{Body, Network};
-use sq_value::Tuple;
+use sq_value::{Tuple, stream_in};
 use std::alloc::{AllocError, Global};
 use std::mem::size_of_val;
 

@@ -2,8 +2,9 @@
 use Rattle.std.proofs.Common.{◌≡◌, ◌≢◌, ℕ, ◌+◌, ◌<◌, ◌≤◌, false, List, [], ◌∷◌, ◌++◌, Option, Some, length, refl, sym, ap, subst, ◌∙◌, inl, inr, arith, get_or-set_other, get_or-set_same}
 use Rattle.std.proofs.Math.ListN.{set, length-set}
 use Rattle.std.specs.Prelude.{drop}
+use Rattle.sq_words.specs.Lists.{nth}
 use Rattle.sq_item.specs.declared.Item.{Item}
-use Rattle.sq_link.specs.ChainLists.{Chained, list_at, StandsIn, Apart}
+use Rattle.sq_link.specs.ChainLists.{Chained, StandsIn, Apart}
 use Rattle.sq_outside.specs.Disks.{Pages}
 use Rattle.sq_pool.specs.Pools.{is_held}
 use Rattle.sq_paged.specs.KeptPages.{items_kept}
@@ -26,7 +27,7 @@ append-adds q told r now arc node item g alone last a =
     let below = alone.below arc node s in
     let after : IsKeptPage r.pool now a.after = appended-kept q.pool told r.pool now (kept_at q.kept.items node) a.after item (g.pages arc node s) a.page in
     let t = change-touches q told r now arc node a.after g alone s a.state a.kept a.page.spares a.page.page after in
-    let same : nodes_on r arc ≡ nodes_on q arc = ap (λ (c : Chained). list_at c.lists arc) a.state in
+    let same : nodes_on r arc ≡ nodes_on q arc = ap (λ (c : Chained). nth c.lists arc) a.state in
     let is : kept_at r.kept.items node ≡ a.after = ap (λ (ks : List Kept). kept_at ks node) a.kept ∙ kept-same q.kept.items node a.after below in
     record {
       rest = touch-rest q told r now arc node (kept_at q.kept.items node).page g t;
@@ -43,12 +44,12 @@ append-adds q told r now arc node item g alone last a =
 start-touches : (q : Queues) (told : Option Pages) (r : Queues) (now : Option Pages) (arc node : ℕ) (item : Item) → PagedTogether q told → AreAlone q → arc < length q.chains.lists → StartsAt q told r now arc node item
     → Touches q told r now arc node (kept_at r.kept.items node).page
 start-touches q told r now arc node item g alone inside s =
-    let here : nodes_on r arc ≡ nodes_on q arc ++ node ∷ [] = ap (λ (ls : List (List ℕ)). list_at ls arc) s.lists ∙ get_or-set_same q.chains.lists arc (nodes_on q arc ++ node ∷ []) [] inside in
+    let here : nodes_on r arc ≡ nodes_on q arc ++ node ∷ [] = ap (λ (ls : List (List ℕ)). nth ls arc) s.lists ∙ get_or-set_same q.chains.lists arc (nodes_on q arc ++ node ∷ []) [] inside in
     record {
       spares = s.page.spares;
       arcs = ap length s.lists ∙ length-set q.chains.lists arc (nodes_on q arc ++ node ∷ []);
       nodes = s.nodes;
-      lists = λ l away. ap (λ (ls : List (List ℕ)). list_at ls l) s.lists ∙ get_or-set_other q.chains.lists arc l (nodes_on q arc ++ node ∷ []) [] away;
+      lists = λ l away. ap (λ (ls : List (List ℕ)). nth ls l) s.lists ∙ get_or-set_other q.chains.lists arc l (nodes_on q arc ++ node ∷ []) [] away;
       left = λ other h differ. stands-behind other node (nodes_on q arc) (subst (λ (xs : List ℕ). StandsIn other xs) here h) differ;
       kept = λ l other h differ. let under = alone.below l other h in s.others other (omega (arith, g.nodes, under)) differ;
       here = λ h. (started-kept q.pool told r.pool now (kept_at r.kept.items node) item s.page, refl);
@@ -62,7 +63,7 @@ start-touches q told r now arc node item g alone inside s =
 pub start-adds : (q : Queues) (told : Option Pages) (r : Queues) (now : Option Pages) (arc node : ℕ) (item : Item) → PagedTogether q told → AreAlone q → arc < length q.chains.lists → StartsAt q told r now arc node item → AddsItem q told r now arc node item
 start-adds q told r now arc node item g alone inside s =
     let t = start-touches q told r now arc node item g alone inside s in
-    let here : nodes_on r arc ≡ nodes_on q arc ++ node ∷ [] = ap (λ (ls : List (List ℕ)). list_at ls arc) s.lists ∙ get_or-set_same q.chains.lists arc (nodes_on q arc ++ node ∷ []) [] inside in
+    let here : nodes_on r arc ≡ nodes_on q arc ++ node ∷ [] = ap (λ (ls : List (List ℕ)). nth ls arc) s.lists ∙ get_or-set_same q.chains.lists arc (nodes_on q arc ++ node ∷ []) [] inside in
     let off : (n : ℕ) → StandsIn n (nodes_on q arc) → n ≢ node = λ n h e. s.outside arc (subst (λ (m : ℕ). StandsIn m (nodes_on q arc)) e h) in
     record {
       rest = touch-rest q told r now arc node (kept_at r.kept.items node).page g t;
@@ -88,7 +89,7 @@ take-removes q told r now arc node item ys g alone first a some =
     let below = alone.below arc node s in
     let after : IsKeptPage r.pool now a.after = taken-kept q.pool told r.pool now (kept_at q.kept.items node) a.after item a.page some in
     let t = change-touches q told r now arc node a.after g alone s a.state a.kept a.page.spares a.page.page after in
-    let same : nodes_on r arc ≡ nodes_on q arc = ap (λ (c : Chained). list_at c.lists arc) a.state in
+    let same : nodes_on r arc ≡ nodes_on q arc = ap (λ (c : Chained). nth c.lists arc) a.state in
     let is : kept_at r.kept.items node ≡ a.after = ap (λ (ks : List Kept). kept_at ks node) a.kept ∙ kept-same q.kept.items node a.after below in
     let off = behind-off node (nodes_on q arc) ys (alone.once arc) first in
     let stands : (n : ℕ) → StandsIn n ys → StandsIn n (nodes_on q arc) = λ n h. subst (λ (xs : List ℕ). StandsIn n xs) (sym first) (inr h) in
@@ -117,12 +118,12 @@ gone-touches q told m mid r now arc node item ys g alone inside first a d left =
     let below = alone.below arc node s in
     let is : kept_at m.kept.items node ≡ a.after = ap (λ (ks : List Kept). kept_at ks node) a.kept ∙ kept-same q.kept.items node a.after below in
     let page : (kept_at m.kept.items node).page ≡ (kept_at q.kept.items node).page = ap (λ (k : Kept). k.page) is ∙ a.page.page in
-    let lists : r.chains.lists ≡ set q.chains.lists arc (drop 1 (nodes_on q arc)) = d.lists ∙ ap (λ (c : Chained). set c.lists arc (drop 1 (list_at c.lists arc))) a.state in
+    let lists : r.chains.lists ≡ set q.chains.lists arc (drop 1 (nodes_on q arc)) = d.lists ∙ ap (λ (c : Chained). set c.lists arc (drop 1 (nth c.lists arc))) a.state in
     record {
       spares = spares-then q.pool told m.pool mid r.pool now (kept_at q.kept.items node).page a.page.spares (subst (λ (p : ℕ). Spares m.pool mid r.pool now p) page d.spares);
       arcs = ap length lists ∙ length-set q.chains.lists arc (drop 1 (nodes_on q arc));
       nodes = ap (λ ks. length ks.items) d.kept ∙ ap length a.kept ∙ length-set q.kept.items node a.after ∙ g.nodes ∙ sym (ap (λ (c : Chained). c.nodes) a.state) ∙ sym d.nodes;
-      lists = λ l away. ap (λ (ls : List (List ℕ)). list_at ls l) lists ∙ get_or-set_other q.chains.lists arc l (drop 1 (nodes_on q arc)) [] away;
+      lists = λ l away. ap (λ (ls : List (List ℕ)). nth ls l) lists ∙ get_or-set_other q.chains.lists arc l (drop 1 (nodes_on q arc)) [] away;
       left = λ other h differ. subst (λ (xs : List ℕ). StandsIn other xs) (sym first) (inr (subst (λ (xs : List ℕ). StandsIn other xs) left h));
       kept = λ l other h differ. ap (λ ks. kept_at ks.items other) d.kept ∙ ap (λ (ks : List Kept). kept_at ks other) a.kept ∙ kept-other q.kept.items node other a.after differ;
       here = λ h. absurd (behind-off node (nodes_on q arc) ys (alone.once arc) first node (subst (λ (xs : List ℕ). StandsIn node xs) left h) refl);
@@ -141,8 +142,8 @@ pub gone-removes : (q : Queues) (told : Option Pages) (m : Queues) (mid : Option
     → (a : TakesAt q told m mid node item) → a.after.count ≡ 0 → DropsAt m mid r now arc node → Removes q told r now arc item
 gone-removes q told m mid r now arc node item ys g alone inside first a none d =
     let left : nodes_on r arc ≡ ys =
-    ap (λ (ls : List (List ℕ)). list_at ls arc) d.lists
-    ∙ ap (λ (c : Chained). list_at (set c.lists arc (drop 1 (list_at c.lists arc))) arc) a.state
+    ap (λ (ls : List (List ℕ)). nth ls arc) d.lists
+    ∙ ap (λ (c : Chained). nth (set c.lists arc (drop 1 (nth c.lists arc))) arc) a.state
     ∙ get_or-set_same q.chains.lists arc (drop 1 (nodes_on q arc)) [] inside
     ∙ ap (λ (xs : List ℕ). drop 1 xs) first in
     let t = gone-touches q told m mid r now arc node item ys g alone inside first a d left in

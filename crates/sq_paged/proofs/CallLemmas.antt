@@ -2,8 +2,9 @@
 use Rattle.std.proofs.Common.{◌≡◌, ℕ, ◌<◌, ◌≤◌, true, false, List, [], ◌∷◌, Option, Some, None, length, refl, sym, ap, subst, ◌∙◌, inl, inr, arith, get_or, get_or-set_same}
 use Rattle.std.proofs.Math.ListN.{length-set}
 use Rattle.std.specs.Prelude.{slice_get, IfSome, IfOk, Result, Ok, Err, is_some}
+use Rattle.sq_words.specs.Lists.{nth}
 use Rattle.sq_item.specs.declared.Item.{Item}
-use Rattle.sq_link.specs.ChainLists.{Chained, StandsIn, head_or, list_at}
+use Rattle.sq_link.specs.ChainLists.{Chained, StandsIn, head_or}
 use Rattle.sq_outside.specs.Disks.{DiskLog, Pages}
 use Rattle.sq_outside.specs.Faults.{Rose}
 use Rattle.sq_pool.specs.Pools.{bytes_in, is_held}
@@ -40,13 +41,13 @@ pub cause-refusal : (q r : Queues) (before now : DiskLog) (arc node : ℕ) (e : 
 cause-refusal q r before now arc node error.Disk s h same = tt
 cause-refusal q r before now arc node (error.Garbled page kept got) s h same = (
   node,
-  subst (λ (x : Chained). StandsIn node (list_at x.lists arc)) (sym same.chains) s,
+  subst (λ (x : Chained). StandsIn node (nth x.lists arc)) (sym same.chains) s,
   subst (λ (x : List Kept). IsCause q.pool r.pool before now (kept_at x node) (error.Garbled page kept got)) (sym same.kept) h,
   same,
 )
 cause-refusal q r before now arc node (error.NotAPage page bytes) s h same = (
   node,
-  subst (λ (x : Chained). StandsIn node (list_at x.lists arc)) (sym same.chains) s,
+  subst (λ (x : Chained). StandsIn node (nth x.lists arc)) (sym same.chains) s,
   subst (λ (x : List Kept). IsCause q.pool r.pool before now (kept_at x node) (error.NotAPage page bytes)) (sym same.kept) h,
   same,
 )

@@ -2,8 +2,9 @@
 use Rattle.std.proofs.Common.{◌≡◌, ℕ, zero, suc, true, false, List, [], Option, None, length, refl, sym, ap, subst, ◌∙◌}
 use Rattle.std.specs.Prelude.{replicate, slice_get}
 use Rattle.std.proofs.lemmas.List.{length-replicate}
+use Rattle.sq_words.specs.Lists.{nth}
 use Rattle.sq_item.specs.declared.Item.{Item}
-use Rattle.sq_link.specs.ChainLists.{list_at, StandsIn}
+use Rattle.sq_link.specs.ChainLists.{StandsIn}
 use Rattle.sq_outside.specs.Disks.{Pages}
 use Rattle.sq_pool.specs.Pools.{is_held, Agree}
 use Rattle.sq_paged.specs.Fronts.{Face, IsFaceOf}
@@ -25,7 +26,7 @@ none-lane zero arc kept = record { count = refl; first = refl; last = refl }
 none-lane (suc n) zero kept = record { count = refl; first = refl; last = refl }
 none-lane (suc n) (suc arc) kept = none-lane n arc kept
 
-pub none-listed : (n arc : ℕ) → list_at (replicate n []) arc ≡ []
+pub none-listed : (n arc : ℕ) → nth (replicate n []) arc ≡ []
 none-listed zero arc = refl
 none-listed (suc n) zero = refl
 none-listed (suc n) (suc arc) = none-listed n arc
@@ -34,11 +35,11 @@ none-stands : (xs : List ℕ) (node : ℕ) → xs ≡ [] → StandsIn node xs �
 none-stands xs node e h = subst (λ (ys : List ℕ). StandsIn node ys) e h
 
 pub new-items : (q : Queues) (arcs : ℕ) (told : Option Pages) (arc : ℕ) → q.chains.lists ≡ replicate arcs [] → paged_items_on q told arc ≡ []
-new-items q arcs told arc lists = ap (λ (ls : List (List ℕ)). items_along q.pool told q.kept.items (list_at ls arc)) lists ∙ ap (λ (xs : List ℕ). items_along q.pool told q.kept.items xs) (none-listed arcs arc)
+new-items q arcs told arc lists = ap (λ (ls : List (List ℕ)). items_along q.pool told q.kept.items (nth ls arc)) lists ∙ ap (λ (xs : List ℕ). items_along q.pool told q.kept.items xs) (none-listed arcs arc)
 
 pub new-together : (q : Queues) (arcs : ℕ) (told : Option Pages) → Agree q.pool told → ((page : ℕ) → is_held q.pool page ≡ false) → q.chains.lists ≡ replicate arcs [] → q.chains.nodes ≡ 0 → q.kept.items ≡ [] → q.lanes.items ≡ replicate arcs no_items → PagedTogether q told
 new-together q arcs told agree held lists nodes kept lanes =
-    let none : (arc : ℕ) → nodes_on q arc ≡ [] = λ arc. ap (λ (ls : List (List ℕ)). list_at ls arc) lists ∙ none-listed arcs arc in
+    let none : (arc : ℕ) → nodes_on q arc ≡ [] = λ arc. ap (λ (ls : List (List ℕ)). nth ls arc) lists ∙ none-listed arcs arc in
     let empty : (arc : ℕ) → paged_face q arc ≡ no_face = λ arc. ap (λ (ls : List Lane). paged_face_at (slice_get ls arc)) lanes ∙ none-face arcs arc in
     record {
       agree = agree;

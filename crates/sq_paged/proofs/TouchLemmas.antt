@@ -3,8 +3,9 @@ use Rattle.std.proofs.Common.{◌≡◌, ◌≢◌, ℕ, suc, ◌<◌, true, Lis
 use Rattle.std.proofs.Math.ListN.{set, length-set}
 use Rattle.std.proofs.lemmas.Bool.{cases_eq}
 use Rattle.std.specs.Prelude.{slice_get}
+use Rattle.sq_words.specs.Lists.{nth}
 use Rattle.sq_item.specs.declared.Item.{Item}
-use Rattle.sq_link.specs.ChainLists.{Chained, list_at, StandsIn, Apart, IsChained}
+use Rattle.sq_link.specs.ChainLists.{Chained, StandsIn, Apart, IsChained}
 use Rattle.sq_outside.specs.Disks.{Pages}
 use Rattle.sq_pool.specs.Pools.{is_held}
 use Rattle.sq_pool.specs.Trust.{Tells}
@@ -193,13 +194,13 @@ change-touches q told r now arc node after g alone s state kept spares page stan
       spares = spares;
       arcs = ap (λ (c : Chained). length c.lists) state;
       nodes = ap length kept ∙ length-set q.kept.items node after ∙ g.nodes ∙ sym (ap (λ (c : Chained). c.nodes) state);
-      lists = λ l away. ap (λ (c : Chained). list_at c.lists l) state;
-      left = λ other h differ. subst (λ (c : Chained). StandsIn other (list_at c.lists arc)) state h;
+      lists = λ l away. ap (λ (c : Chained). nth c.lists l) state;
+      left = λ other h differ. subst (λ (c : Chained). StandsIn other (nth c.lists arc)) state h;
       kept = λ l other h differ. ap (λ (ks : List Kept). kept_at ks other) kept ∙ kept-other q.kept.items node other after differ;
       here = λ h. (subst (λ (k : Kept). IsKeptPage r.pool now k) (sym is) stands, ap (λ (k : Kept). k.page) is ∙ page);
       apart = λ l other h differ. g.apart l other arc node h s differ;
       alone = λ l away h. away (alone.one l arc node h s);
-      stays = λ other h differ. subst (λ (c : Chained). StandsIn other (list_at c.lists arc)) (sym state) h;
+      stays = λ other h differ. subst (λ (c : Chained). StandsIn other (nth c.lists arc)) (sym state) h;
       had = λ l h. refl;
-      held = λ h. subst (λ (c : Chained). StandsIn node (list_at c.lists arc)) (sym state) s;
+      held = λ h. subst (λ (c : Chained). StandsIn node (nth c.lists arc)) (sym state) s;
     }

@@ -2,8 +2,9 @@
 -- with a disk.
 use Rattle.std.specs.Prelude.{◌≡◌, ◌≢◌, ⊤, ℕ, ◌+◌, ◌==◌, ◌≤◌, Bool, true, false, List, [], ◌∷◌, length, Option, Some, None, is_some, slice_get, slice_index_or, if◌then◌else◌}
 use Rattle.std.specs.List.{flat_map}
+use Rattle.sq_words.specs.Lists.{nth}
 use Rattle.sq_item.specs.declared.Item.{Item}
-use Rattle.sq_link.specs.ChainLists.{list_at, StandsIn}
+use Rattle.sq_link.specs.ChainLists.{StandsIn}
 use Rattle.sq_outside.specs.Disks.{DiskLog, Pages}
 use Rattle.sq_pool.specs.Trust.{Tells}
 use Rattle.sq_pool.specs.Pools.{Pooled, is_held, Agree}
@@ -39,7 +40,7 @@ paged_resident_of queues = length queues.pool.resident
 
 -- the nodes of an arc, and what is kept of the page of a node
 abbrev pub nodes_on : Queues → ℕ → List ℕ
-nodes_on queues arc = list_at queues.chains.lists arc
+nodes_on queues arc = nth queues.chains.lists arc
 
 abbrev pub no_page : Kept
 no_page = record { page = 0; start = 0; count = 0; end = 0; time = 0 }

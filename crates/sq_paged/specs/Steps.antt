@@ -1,7 +1,8 @@
 -- What the steps of a push and of a pop do to queues, before the lane of the arc is written.
 use Rattle.std.specs.Prelude.{◌≡◌, ◌≢◌, ℕ, ◌+◌, ◌<◌, true, false, List, [], ◌∷◌, length, Option, Some, slice_get, slice_set, drop, ◌++◌}
+use Rattle.sq_words.specs.Lists.{nth}
 use Rattle.sq_item.specs.declared.Item.{Item}
-use Rattle.sq_link.specs.ChainLists.{list_at, StandsIn}
+use Rattle.sq_link.specs.ChainLists.{StandsIn}
 use Rattle.sq_outside.specs.Disks.{Pages}
 use Rattle.sq_pool.specs.Pools.{is_held, Agree}
 use Rattle.sq_pool.specs.Trust.{Tells}
@@ -29,15 +30,15 @@ pub record TakesAt (q : Queues) (told : Option Pages) (r : Queues) (now : Option
 pub record StartsAt (q : Queues) (told : Option Pages) (r : Queues) (now : Option Pages) (arc : ℕ) (node : ℕ) (item : Item) : Type 0 where
   pub page : Started q.pool told r.pool now (kept_at r.kept.items node) item
   pub others : (other : ℕ) → other < q.chains.nodes → other ≢ node → kept_at r.kept.items other ≡ kept_at q.kept.items other
-  pub lists : r.chains.lists ≡ slice_set q.chains.lists arc (list_at q.chains.lists arc ++ node ∷ [])
+  pub lists : r.chains.lists ≡ slice_set q.chains.lists arc (nth q.chains.lists arc ++ node ∷ [])
   pub nodes : length r.kept.items ≡ r.chains.nodes
-  pub outside : (l : ℕ) → ¬ (StandsIn node (list_at q.chains.lists l))
+  pub outside : (l : ℕ) → ¬ (StandsIn node (nth q.chains.lists l))
 
 -- the first page of an arc is let go
 pub record DropsAt (q : Queues) (told : Option Pages) (r : Queues) (now : Option Pages) (arc : ℕ) (node : ℕ) : Type 0 where
   pub spares : Spares q.pool told r.pool now (kept_at q.kept.items node).page
   pub gone : is_held r.pool (kept_at q.kept.items node).page ≡ false
-  pub lists : r.chains.lists ≡ slice_set q.chains.lists arc (drop 1 (list_at q.chains.lists arc))
+  pub lists : r.chains.lists ≡ slice_set q.chains.lists arc (drop 1 (nth q.chains.lists arc))
   pub nodes : r.chains.nodes ≡ q.chains.nodes
   pub kept : r.kept ≡ q.kept
 

@@ -9,6 +9,7 @@
 #![tactic(auto)]
 
 ghost use Rattle.std.specs.Prelude.{◌≡◌, ◌≢◌, ℕ, ◌+◌, ◌-◌, ◌<◌, ◌≤◌, ◌++◌, ◌∷◌, [], true, false, Option, Some, None, length, is_some, option_map, IfOk, OnOk, OnErr, IfErr, IfSome, replicate};
+ghost use Rattle.sq_words.specs.Lists.{nth};
 ghost use Rattle.sq_item.specs.SoundItems.{IsSoundItem};
 ghost use Rattle.sq_outside.specs.Disks.{Honest, Pages};
 ghost use Rattle.sq_outside.specs.Faults.{Rose};
@@ -20,7 +21,7 @@ ghost use Rattle.sq_paged.specs.Faces.{paged_face, paged_size, paged_frames, pag
 ghost use Rattle.sq_paged.specs.Steps.{AppendsAt, TakesAt, StartsAt, DropsAt, AddsItem, Removes};
 ghost use Rattle.sq_page.specs.Pages.{item_bytes};
 ghost use Rattle.sq_pool.specs.Pools.{Agree, bytes_in, is_held};
-ghost use Rattle.sq_link.specs.ChainLists.{IsLoose, head_or, list_at};
+ghost use Rattle.sq_link.specs.ChainLists.{IsLoose, head_or};
 
 mod contract;
 mod store;
@@ -313,7 +314,7 @@ impl Queues {
     // Lets the first page of an arc go, of which nothing is left.
     fn drop_first<D: PageDisk>(&mut self, disk: &mut D, arc: u32, node: u64) -> Result<(), QueueErr>
         requires arc { arc < length self.old.chains.lists }
-        requires first { head_or (list_at self.old.chains.lists arc) None ≡ Some node }
+        requires first { head_or (nth self.old.chains.lists arc) None ≡ Some node }
         requires node { node < length self.old.kept.items }
         requires held { is_held self.old.pool (kept_at self.old.kept.items node).page ≡ true }
         requires agree { Agree self.old.pool (known (D.log disk.old)) }
@@ -339,7 +340,7 @@ impl Queues {
     fn front_time(&self, arc: u32) -> Option<u64>
         requires arc { arc < length self.now.chains.lists }
         requires nodes { length self.now.kept.items ≡ self.now.chains.nodes }
-        ensures { result ≡ option_map (λ node. (kept_at self.now.kept.items node).time) (head_or (list_at self.now.chains.lists arc) None) }
+        ensures { result ≡ option_map (λ node. (kept_at self.now.kept.items node).time) (head_or (nth self.now.chains.lists arc) None) }
     {
         self.chains.one_place_each();
         let node = self.chains.first(arc)?;

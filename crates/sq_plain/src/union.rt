@@ -17,7 +17,8 @@ ghost use Rattle.sq_oper.specs.Order.{merge, IsFuture};
 ghost use Rattle.sq_oper.specs.Streams.{things, tuples_of, at_zero};
 ghost use Rattle.sq_tagged.specs.TaggedStreams.{HasNoMarks, spread_of};
 ghost use Rattle.sq_tagged.specs.Boxes.{united_tagged};
-ghost use Rattle.sq_plain.specs.Unions.{is_last_time, union_next, union_gives, union_rest, takes_union_mark};
+ghost use Rattle.sq_words.specs.Options.{is_number};
+ghost use Rattle.sq_plain.specs.Unions.{union_next, union_gives, union_rest, takes_union_mark};
 
 use crate::give::{give_mark, give_tuple};
 use sq_item::{Body, Item, Mark, Sign};
@@ -182,7 +183,7 @@ impl UnionBox {
 
 /// Whether a mark of this time was handed on.
 fn is_seen(last: Option<u64>, time: u64) -> bool
-    ensures { result ≡ is_last_time last time }
+    ensures { result ≡ is_number time last }
 {
     match last {
         None => false,

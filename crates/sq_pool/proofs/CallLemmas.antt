@@ -1,9 +1,10 @@
 -- The public calls, seen as pools.
 use Rattle.std.proofs.Common.{◌≡◌, ℕ, ◌∷◌, ◌++◌, [], List, Option, Some, None, refl, sym, ap, subst, ◌∙◌}
 use Rattle.std.proofs.Math.ListN.{set}
+use Rattle.sq_words.specs.Lists.{nth}
 use Rattle.sq_outside.specs.Disks.{Pages}
 use Rattle.sq_pool.specs.Slots.{Slotted, frame_in, without_page, digest_at}
-use Rattle.sq_pool.specs.Pools.{Pooled, frame_at, pooled, bytes_in, with_bytes, loaded, HasFrameLeft, Fetches, Keeps, Makes, Drops, IsLast, zeros, IsNumbered, IsMade, Brings, Touched, LetsGo}
+use Rattle.sq_pool.specs.Pools.{Pooled, pooled, bytes_in, with_bytes, loaded, HasFrameLeft, Fetches, Keeps, Makes, Drops, IsLast, zeros, IsNumbered, IsMade, Brings, Touched, LetsGo}
 use Rattle.sq_pool.proofs.PoolLemmas.{bytes-frame, touched, dropped, out-of-frames}
 use Rattle.sq_pool.proofs.MapLemmas.{keeps-touched, drops-resident, drops-spilled, makes, started, room-out, written, lets-resident-go, lets-spilled-go}
 use Rattle.sq_pool.proofs.TrustWords.{pages_without}
@@ -12,7 +13,7 @@ pub keeps-touch : (slots : Slotted) (frames : List (List ℕ)) (told : Option Pa
     → Keeps (pooled slots frames) told (pooled (record slots { order = without_page p slots.order ++ (p, f) ∷ [] }) frames) told
 keeps-touch slots frames told p f e =
     subst (λ (x : Pooled). Keeps (pooled slots frames) told x told) (sym (touched slots frames p f))
-    (keeps-touched (pooled slots frames) told p (frame_at frames f) (bytes-frame frames slots.order p f e))
+    (keeps-touched (pooled slots frames) told p (nth frames f) (bytes-frame frames slots.order p f e))
 
 pub drops-release : (slots : Slotted) (frames : List (List ℕ)) (told : Option Pages) (p : ℕ)
     → Drops (pooled slots frames) told (pooled (record slots { order = without_page p slots.order; kept = set slots.kept p None }) frames) told p
@@ -53,7 +54,7 @@ fetched-last c told d now p digest f = (f.mid.resident, f.bytes, ap (λ (x : Poo
 
 pub touches : (slots : Slotted) (frames : List (List ℕ)) (told : Option Pages) (p f : ℕ) → frame_in p slots.order ≡ Some f
     → Brings (pooled slots frames) told (pooled (record slots { order = without_page p slots.order ++ (p, f) ∷ [] }) frames) told p
-touches slots frames told p f e = Touched (frame_at frames f) (bytes-frame frames slots.order p f e) (touched slots frames p f) refl
+touches slots frames told p f e = Touched (nth frames f) (bytes-frame frames slots.order p f e) (touched slots frames p f) refl
 
 pub release-goes : (slots : Slotted) (frames : List (List ℕ)) (p : ℕ) → LetsGo (pooled slots frames) (pooled (record slots { order = without_page p slots.order; kept = set slots.kept p None }) frames) p
 release-goes slots frames p = subst (λ (x : Pooled). LetsGo (pooled slots frames) x p) (sym (dropped slots frames p)) (lets-resident-go (pooled slots frames) p)

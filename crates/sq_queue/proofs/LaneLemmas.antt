@@ -11,7 +11,7 @@ use Rattle.sq_item.specs.SoundItems.{IsSoundItem}
 use Rattle.sq_paged.specs.Faces.{is_first}
 use Rattle.sq_paged.specs.Fronts.{Face, IsFaceOf, IsPopped, first_time, first_time_or, pushed}
 use Rattle.sq_queue.specs.Faces.{room_of, rooms_of, face_at, front_at, behind_at, first_time_of, IsLane}
-use Rattle.sq_queue.specs.declared.Lane.{Lane}
+use Rattle.sq_queue.specs.declared.FrontLane.{FrontLane}
 use Rattle.sq_paged.proofs.LaneLemmas.{first-given}
 use Rattle.sq_words.proofs.Lists.{get_set_same, get_set_other}
 
@@ -42,11 +42,11 @@ first-of-all : (front items : List Item) (behind : Option ℕ) → behind ≡ fi
 first-of-all [] items behind h = h
 first-of-all (x ∷ front) items behind h = refl
 
-face-first : (lane : Option Lane) → (face_at lane).first ≡ first_time_of (front_at lane) (behind_at lane)
+face-first : (lane : Option FrontLane) → (face_at lane).first ≡ first_time_of (front_at lane) (behind_at lane)
 face-first None = refl
 face-first (Some lane) = refl
 
-pub lane-face : (lane : Option Lane) (paged : Face) (items : List Item) → IsLane lane paged → IsFaceOf paged items → IsFaceOf (face_at lane) (front_at lane ++ items)
+pub lane-face : (lane : Option FrontLane) (paged : Face) (items : List Item) → IsLane lane paged → IsFaceOf paged items → IsFaceOf (face_at lane) (front_at lane ++ items)
 lane-face lane paged items l f =
     record {
       count = omega (arith, l.count, f.count, length-append (front_at lane) items);
@@ -71,12 +71,12 @@ no-rooms front item [] is one = omega arith
 no-rooms front item (x ∷ items) is one = absurd (omega (arith, ap length is, one))
 
 -- a lane has one item more in front
-pub record Appends (lane new : Lane) (item : Item) : Type 0 where
+pub record Appends (lane new : FrontLane) (item : Item) : Type 0 where
   pub front : new.front.items ≡ lane.front.items ++ item ∷ []
   pub count : new.count ≡ lane.count + 1
   pub behind : new.behind ≡ lane.behind
 
-pub appended-lane : (lane new : Lane) (item : Item) (paged : Face) → IsLane (Some lane) paged → Appends lane new item → IsSoundItem item → length lane.front.items < 256
+pub appended-lane : (lane new : FrontLane) (item : Item) (paged : Face) → IsLane (Some lane) paged → Appends lane new item → IsSoundItem item → length lane.front.items < 256
     → (bytes : ℕ) → bytes ≡ room_of item → new.held ≡ lane.held + bytes → lane.held + bytes ≤ 8192 → IsLane (Some new) paged
 appended-lane lane new item paged l a sound room bytes takes held most =
     let more : length new.front.items ≡ length lane.front.items + 1 = ap length a.front ∙ length-append lane.front.items (item ∷ []) in
@@ -92,7 +92,7 @@ appended-lane lane new item paged l a sound room bytes takes held most =
     }
 
 -- an item that wasn't put in front
-pub kept-lane : (lane new : Lane) (paged : Face) → IsLane (Some lane) paged → new.front.items ≡ lane.front.items → new.held ≡ lane.held → new.count ≡ lane.count → new.behind ≡ lane.behind → IsLane (Some new) paged
+pub kept-lane : (lane new : FrontLane) (paged : Face) → IsLane (Some lane) paged → new.front.items ≡ lane.front.items → new.held ≡ lane.held → new.count ≡ lane.count → new.behind ≡ lane.behind → IsLane (Some new) paged
 kept-lane lane new paged l front held count behind =
     let same : length new.front.items ≡ length lane.front.items = ap length front in
     let rooms : rooms_of new.front.items ≡ rooms_of lane.front.items = ap rooms_of front in
@@ -113,7 +113,7 @@ appended-items front new items item e none =
 
 -- ---- an item behind the last in pages
 
-pub pushed-behind : (lane new : Lane) (time : ℕ) (paged after : Face) → IsLane (Some lane) paged → after ≡ pushed paged time → new.front.items ≡ lane.front.items → new.held ≡ lane.held → new.count ≡ lane.count + 1 → new.behind ≡ Some (unwrap_or lane.behind time)
+pub pushed-behind : (lane new : FrontLane) (time : ℕ) (paged after : Face) → IsLane (Some lane) paged → after ≡ pushed paged time → new.front.items ≡ lane.front.items → new.held ≡ lane.held → new.count ≡ lane.count + 1 → new.behind ≡ Some (unwrap_or lane.behind time)
     → IsLane (Some new) after
 pushed-behind lane new time paged after l e front held count behind =
     let more : after.count ≡ paged.count + 1 = ap (λ (f : Face). f.count) e in
@@ -131,7 +131,7 @@ pushed-behind lane new time paged after l e front held count behind =
 
 -- ---- the first item in front goes
 
-pub record Takes (lane new : Lane) (item : Item) : Type 0 where
+pub record Takes (lane new : FrontLane) (item : Item) : Type 0 where
   pub front : lane.front.items ≡ item ∷ new.front.items
   pub held : rooms_of new.front.items ≤ new.held
   pub less : new.held ≤ lane.held
@@ -139,13 +139,13 @@ pub record Takes (lane new : Lane) (item : Item) : Type 0 where
   pub behind : new.behind ≡ lane.behind
   pub ended : new.ended ≡ lane.ended
 
-pub front-counted : (lane : Lane) (paged : Face) → IsLane (Some lane) paged → length lane.front.items ≤ lane.count
+pub front-counted : (lane : FrontLane) (paged : Face) → IsLane (Some lane) paged → length lane.front.items ≤ lane.count
 front-counted lane paged l = omega (arith, l.count)
 
-pub taken-sound : (lane new : Lane) (item : Item) (paged : Face) → IsLane (Some lane) paged → Takes lane new item → IsSoundItem item
+pub taken-sound : (lane new : FrontLane) (item : Item) (paged : Face) → IsLane (Some lane) paged → Takes lane new item → IsSoundItem item
 taken-sound lane new item paged l t = (subst (λ (xs : List Item). AllByRecursion IsSoundItem xs) t.front l.sound).0
 
-pub taken-lane : (lane new : Lane) (item : Item) (paged : Face) → IsLane (Some lane) paged → Takes lane new item → IsLane (Some new) paged
+pub taken-lane : (lane new : FrontLane) (item : Item) (paged : Face) → IsLane (Some lane) paged → Takes lane new item → IsLane (Some new) paged
 taken-lane lane new item paged l t =
     let less : length lane.front.items ≡ suc (length new.front.items) = ap length t.front in
     record {
@@ -170,7 +170,7 @@ some-of : (front : List Item) (behind : Option ℕ) (count paged : ℕ) → is_s
 some-of [] behind count paged h c = let same : count ≡ paged = omega (arith, c) in h ∙ ap is_first (sym same)
 some-of (x ∷ front) behind count paged h c = let more : count ≡ suc (length front + paged) = omega (arith, c) in sym (ap is_first more ∙ is-first-suc (length front + paged))
 
-pub taken-face : (lane new : Lane) (item : Item) (paged : Face) → IsLane (Some lane) paged → is_some paged.first ≡ is_first paged.count → Takes lane new item → IsPopped (face_at (Some lane)) (face_at (Some new))
+pub taken-face : (lane new : FrontLane) (item : Item) (paged : Face) → IsLane (Some lane) paged → is_some paged.first ≡ is_first paged.count → Takes lane new item → IsPopped (face_at (Some lane)) (face_at (Some new))
 taken-face lane new item paged l first t =
     let after = taken-lane lane new item paged l t in
     record {
@@ -181,10 +181,10 @@ taken-face lane new item paged l first t =
 
 -- ---- the first item in pages goes, where none is in front
 
-abbrev pub popped_lane : Lane → Option ℕ → Lane
+abbrev pub popped_lane : FrontLane → Option ℕ → FrontLane
 popped_lane lane behind = record lane { count = lane.count - 1; behind = behind }
 
-pub popped-lane : (lane : Lane) (behind : Option ℕ) (paged after : Face) → IsLane (Some lane) paged → IsPopped paged after → behind ≡ after.first → IsLane (Some (popped_lane lane behind)) after
+pub popped-lane : (lane : FrontLane) (behind : Option ℕ) (paged after : Face) → IsLane (Some lane) paged → IsPopped paged after → behind ≡ after.first → IsLane (Some (popped_lane lane behind)) after
 popped-lane lane behind paged after l p e =
     record {
       count = omega (arith, l.count, p.count);
@@ -202,19 +202,19 @@ face-by : (f g : Face) → f.count ≡ g.count → f.first ≡ g.first → f.end
 face-by f g count first ended =
     ap (λ (n : ℕ). record f { count = n }) count ∙ ap (λ (o : Option ℕ). record f { count = g.count; first = o }) first ∙ ap (λ (b : Bool). record g { ended = b }) ended
 
-pub other-face : (lanes : List Lane) (arc other : ℕ) (new : Lane) → other ≢ arc → face_at (slice_get (set lanes arc new) other) ≡ face_at (slice_get lanes other)
+pub other-face : (lanes : List FrontLane) (arc other : ℕ) (new : FrontLane) → other ≢ arc → face_at (slice_get (set lanes arc new) other) ≡ face_at (slice_get lanes other)
 other-face lanes arc other new differ = ap face_at (get_set_other lanes arc other new differ)
 
-pub pushed-face : (lanes : List Lane) (arc : ℕ) (lane new : Lane) (time : ℕ) → arc < length lanes → slice_get lanes arc ≡ Some lane → face_at (Some new) ≡ pushed (face_at (Some lane)) time
+pub pushed-face : (lanes : List FrontLane) (arc : ℕ) (lane new : FrontLane) (time : ℕ) → arc < length lanes → slice_get lanes arc ≡ Some lane → face_at (Some new) ≡ pushed (face_at (Some lane)) time
     → face_at (slice_get (set lanes arc new) arc) ≡ pushed (face_at (slice_get lanes arc)) time
-pushed-face lanes arc lane new time inside was own = ap face_at (get_set_same lanes arc new inside) ∙ own ∙ ap (λ (o : Option Lane). pushed (face_at o) time) (sym was)
+pushed-face lanes arc lane new time inside was own = ap face_at (get_set_same lanes arc new inside) ∙ own ∙ ap (λ (o : Option FrontLane). pushed (face_at o) time) (sym was)
 
-pub popped-face : (lanes : List Lane) (arc : ℕ) (lane new : Lane) → arc < length lanes → slice_get lanes arc ≡ Some lane → IsPopped (face_at (Some lane)) (face_at (Some new))
+pub popped-face : (lanes : List FrontLane) (arc : ℕ) (lane new : FrontLane) → arc < length lanes → slice_get lanes arc ≡ Some lane → IsPopped (face_at (Some lane)) (face_at (Some new))
     → IsPopped (face_at (slice_get lanes arc)) (face_at (slice_get (set lanes arc new) arc))
 popped-face lanes arc lane new inside was own =
-    subst (λ (o : Option Lane). IsPopped (face_at (slice_get lanes arc)) (face_at o)) (sym (get_set_same lanes arc new inside)) (subst (λ (o : Option Lane). IsPopped (face_at o) (face_at (Some new))) (sym was) own)
+    subst (λ (o : Option FrontLane). IsPopped (face_at (slice_get lanes arc)) (face_at o)) (sym (get_set_same lanes arc new inside)) (subst (λ (o : Option FrontLane). IsPopped (face_at o) (face_at (Some new))) (sym was) own)
 
-pub kept-face : (lanes : List Lane) (arc : ℕ) (lane new : Lane) → arc < length lanes → slice_get lanes arc ≡ Some lane → new.front.items ≡ lane.front.items → new.count ≡ lane.count → new.behind ≡ lane.behind → new.ended ≡ lane.ended
+pub kept-face : (lanes : List FrontLane) (arc : ℕ) (lane new : FrontLane) → arc < length lanes → slice_get lanes arc ≡ Some lane → new.front.items ≡ lane.front.items → new.count ≡ lane.count → new.behind ≡ lane.behind → new.ended ≡ lane.ended
     → face_at (slice_get (set lanes arc new) arc) ≡ face_at (slice_get lanes arc)
 kept-face lanes arc lane new inside was front count behind ended =
     ap face_at (get_set_same lanes arc new inside)
@@ -225,7 +225,7 @@ first-behind : (front : List Item) (behind : Option ℕ) (time : ℕ) → first_
 first-behind [] behind time = first-given behind time
 first-behind (x ∷ front) behind time = refl
 
-pub face-pushed-behind : (lane new : Lane) (time : ℕ) → new.front.items ≡ lane.front.items → new.count ≡ lane.count + 1 → new.behind ≡ Some (unwrap_or lane.behind time) → new.ended ≡ lane.ended
+pub face-pushed-behind : (lane new : FrontLane) (time : ℕ) → new.front.items ≡ lane.front.items → new.count ≡ lane.count + 1 → new.behind ≡ Some (unwrap_or lane.behind time) → new.ended ≡ lane.ended
     → face_at (Some new) ≡ pushed (face_at (Some lane)) time
 face-pushed-behind lane new time front count behind ended =
     face-by _ _ count
@@ -236,14 +236,14 @@ first-appended : (front : List Item) (item : Item) → first_time_of (front ++ i
 first-appended [] item = refl
 first-appended (x ∷ front) item = refl
 
-pub face-appended : (lane new : Lane) (item : Item) (time : ℕ) → Appends lane new item → lane.behind ≡ None → new.ended ≡ lane.ended → item.time ≡ time → face_at (Some new) ≡ pushed (face_at (Some lane)) time
+pub face-appended : (lane new : FrontLane) (item : Item) (time : ℕ) → Appends lane new item → lane.behind ≡ None → new.ended ≡ lane.ended → item.time ≡ time → face_at (Some new) ≡ pushed (face_at (Some lane)) time
 face-appended lane new item time a none ended same =
     face-by _ _ a.count
     (ap (λ (xs : List Item). first_time_of xs new.behind) a.front ∙ ap (λ (o : Option ℕ). first_time_of (lane.front.items ++ item ∷ []) o) (a.behind ∙ none) ∙ first-appended lane.front.items item
     ∙ ap (λ (o : Option ℕ). first_time_or (first_time_of lane.front.items o) item.time) (sym none) ∙ ap (λ (t : ℕ). first_time_or (first_time_of lane.front.items lane.behind) t) same)
     ended
 
-pub face-popped-behind : (lane : Lane) (behind : Option ℕ) (paged after : Face) → IsLane (Some lane) paged → lane.front.items ≡ [] → IsPopped paged after → behind ≡ after.first → IsPopped (face_at (Some lane)) (face_at (Some (popped_lane lane behind)))
+pub face-popped-behind : (lane : FrontLane) (behind : Option ℕ) (paged after : Face) → IsLane (Some lane) paged → lane.front.items ≡ [] → IsPopped paged after → behind ≡ after.first → IsPopped (face_at (Some lane)) (face_at (Some (popped_lane lane behind)))
 face-popped-behind lane behind paged after l empty p e =
     let none : length lane.front.items ≡ 0 = ap length empty in
     let left : lane.count - 1 ≡ after.count = omega (arith, l.count, none, p.count) in

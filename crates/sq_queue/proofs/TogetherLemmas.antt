@@ -13,7 +13,7 @@ use Rattle.sq_outside.specs.Disks.{Pages}
 use Rattle.sq_paged.specs.Fronts.{Face}
 use Rattle.sq_paged.specs.Faces as pages
 use Rattle.sq_queue.specs.Faces.{bytes_taken, rooms_of, front_at, size, items_on, no_face, IsEmpty, IsLane, Together, IsBounded}
-use Rattle.sq_queue.specs.declared.Lane.{Lane}
+use Rattle.sq_queue.specs.declared.FrontLane.{FrontLane}
 use Rattle.sq_queue.specs.declared.Queues.{Queues}
 use Rattle.sq_paged.specs.declared.Queues.{Queues as Paged}
 use Rattle.sq_paged.proofs.CallLemmas.{first-in}
@@ -31,61 +31,61 @@ together-by q told paged arcs lanes =
       faces = λ tells arc. lane-face (slice_get q.lanes.items arc) (pages.paged_face q.paged arc) (pages.paged_items_on q.paged told arc) (lanes arc) (paged.faces tells arc);
     }
 
-pub own-lane : (q : Queues) (told : Option Pages) (arc : ℕ) (lane : Lane) → Together q told → slice_get q.lanes.items arc ≡ Some lane → IsLane (Some lane) (pages.paged_face q.paged arc)
-own-lane q told arc lane g was = subst (λ (o : Option Lane). IsLane o (pages.paged_face q.paged arc)) was (g.lanes arc)
+pub own-lane : (q : Queues) (told : Option Pages) (arc : ℕ) (lane : FrontLane) → Together q told → slice_get q.lanes.items arc ≡ Some lane → IsLane (Some lane) (pages.paged_face q.paged arc)
+own-lane q told arc lane g was = subst (λ (o : Option FrontLane). IsLane o (pages.paged_face q.paged arc)) was (g.lanes arc)
 
 -- the lane of one arc was written, and what stands in its pages changed with it
-pub written-together : (q : Queues) (told : Option Pages) (r : Queues) (now : Option Pages) (arc : ℕ) (lane new : Lane) → Together q told → pages.PagedTogether r.paged now → pages.paged_size r.paged ≡ pages.paged_size q.paged → arc < size q
+pub written-together : (q : Queues) (told : Option Pages) (r : Queues) (now : Option Pages) (arc : ℕ) (lane new : FrontLane) → Together q told → pages.PagedTogether r.paged now → pages.paged_size r.paged ≡ pages.paged_size q.paged → arc < size q
     → slice_get q.lanes.items arc ≡ Some lane → r.lanes.items ≡ set q.lanes.items arc new → ((other : ℕ) → other ≢ arc → pages.paged_face r.paged other ≡ pages.paged_face q.paged other)
     → (IsLane (Some lane) (pages.paged_face q.paged arc) → IsLane (Some new) (pages.paged_face r.paged arc)) → Together r now
 written-together q told r now arc lane new g paged sizes inside was lanes others own =
-    let here : slice_get r.lanes.items arc ≡ Some new = ap (λ (ls : List Lane). slice_get ls arc) lanes ∙ get_set_same q.lanes.items arc new inside in
+    let here : slice_get r.lanes.items arc ≡ Some new = ap (λ (ls : List FrontLane). slice_get ls arc) lanes ∙ get_set_same q.lanes.items arc new inside in
     together-by r now paged (sizes ∙ g.arcs ∙ sym (ap length lanes ∙ length-set q.lanes.items arc new)) (λ l.
     elim (cases_eq l arc) [
       | inl same ↦
           subst (λ (n : ℕ). IsLane (slice_get r.lanes.items n) (pages.paged_face r.paged n)) (sym same)
-          (subst (λ (o : Option Lane). IsLane o (pages.paged_face r.paged arc)) (sym here) (own (own-lane q told arc lane g was)))
+          (subst (λ (o : Option FrontLane). IsLane o (pages.paged_face r.paged arc)) (sym here) (own (own-lane q told arc lane g was)))
       | inr away ↦
-          let there : slice_get r.lanes.items l ≡ slice_get q.lanes.items l = ap (λ (ls : List Lane). slice_get ls l) lanes ∙ get_set_other q.lanes.items arc l new away in
-          subst (λ (o : Option Lane). IsLane o (pages.paged_face r.paged l)) (sym there) (subst (λ (f : Face). IsLane (slice_get q.lanes.items l) f) (sym (others l away)) (g.lanes l))
+          let there : slice_get r.lanes.items l ≡ slice_get q.lanes.items l = ap (λ (ls : List FrontLane). slice_get ls l) lanes ∙ get_set_other q.lanes.items arc l new away in
+          subst (λ (o : Option FrontLane). IsLane o (pages.paged_face r.paged l)) (sym there) (subst (λ (f : Face). IsLane (slice_get q.lanes.items l) f) (sym (others l away)) (g.lanes l))
     ])
 
 -- the items of the arc whose lane was written, and of the others
-pub written-items : (q : Queues) (told : Option Pages) (r : Queues) (now : Option Pages) (arc : ℕ) (lane new : Lane) (more : List Item) → arc < size q → slice_get q.lanes.items arc ≡ Some lane → r.lanes.items ≡ set q.lanes.items arc new
+pub written-items : (q : Queues) (told : Option Pages) (r : Queues) (now : Option Pages) (arc : ℕ) (lane new : FrontLane) (more : List Item) → arc < size q → slice_get q.lanes.items arc ≡ Some lane → r.lanes.items ≡ set q.lanes.items arc new
     → new.front.items ++ pages.paged_items_on r.paged now arc ≡ (lane.front.items ++ pages.paged_items_on q.paged told arc) ++ more → items_on r now arc ≡ items_on q told arc ++ more
 written-items q told r now arc lane new more inside was lanes own =
-    let here : slice_get r.lanes.items arc ≡ Some new = ap (λ (ls : List Lane). slice_get ls arc) lanes ∙ get_set_same q.lanes.items arc new inside in
-    ap (λ (o : Option Lane). front_at o ++ pages.paged_items_on r.paged now arc) here ∙ own ∙ ap (λ (o : Option Lane). (front_at o ++ pages.paged_items_on q.paged told arc) ++ more) (sym was)
+    let here : slice_get r.lanes.items arc ≡ Some new = ap (λ (ls : List FrontLane). slice_get ls arc) lanes ∙ get_set_same q.lanes.items arc new inside in
+    ap (λ (o : Option FrontLane). front_at o ++ pages.paged_items_on r.paged now arc) here ∙ own ∙ ap (λ (o : Option FrontLane). (front_at o ++ pages.paged_items_on q.paged told arc) ++ more) (sym was)
 
-pub other-items : (q : Queues) (told : Option Pages) (r : Queues) (now : Option Pages) (arc other : ℕ) (new : Lane) → r.lanes.items ≡ set q.lanes.items arc new → other ≢ arc → pages.paged_items_on r.paged now other ≡ pages.paged_items_on q.paged told other
+pub other-items : (q : Queues) (told : Option Pages) (r : Queues) (now : Option Pages) (arc other : ℕ) (new : FrontLane) → r.lanes.items ≡ set q.lanes.items arc new → other ≢ arc → pages.paged_items_on r.paged now other ≡ pages.paged_items_on q.paged told other
     → items_on r now other ≡ items_on q told other
 other-items q told r now arc other new lanes differ same =
-    let there : slice_get r.lanes.items other ≡ slice_get q.lanes.items other = ap (λ (ls : List Lane). slice_get ls other) lanes ∙ get_set_other q.lanes.items arc other new differ in
-    ap (λ (o : Option Lane). front_at o ++ pages.paged_items_on r.paged now other) there ∙ ap (λ (xs : List Item). front_at (slice_get q.lanes.items other) ++ xs) same
+    let there : slice_get r.lanes.items other ≡ slice_get q.lanes.items other = ap (λ (ls : List FrontLane). slice_get ls other) lanes ∙ get_set_other q.lanes.items arc other new differ in
+    ap (λ (o : Option FrontLane). front_at o ++ pages.paged_items_on r.paged now other) there ∙ ap (λ (xs : List Item). front_at (slice_get q.lanes.items other) ++ xs) same
 
 -- the lane of one arc was read alone
-pub same-lanes : (lanes : List Lane) (arc : ℕ) (lane : Lane) → lane ≡ get_or lanes arc lane → set lanes arc lane ≡ lanes
-same-lanes lanes arc lane is = ap (λ (l : Lane). set lanes arc l) is ∙ set-get_or lanes arc lane
+pub same-lanes : (lanes : List FrontLane) (arc : ℕ) (lane : FrontLane) → lane ≡ get_or lanes arc lane → set lanes arc lane ≡ lanes
+same-lanes lanes arc lane is = ap (λ (l : FrontLane). set lanes arc l) is ∙ set-get_or lanes arc lane
 
 pub read-together : (q : Queues) (told : Option Pages) (r : Queues) → Together q told → r.paged ≡ q.paged → r.lanes.items ≡ q.lanes.items → Together r told
 read-together q told r g paged lanes =
     together-by r told (subst (λ (p : Paged). pages.PagedTogether p told) (sym paged) g.paged) (ap pages.paged_size paged ∙ g.arcs ∙ sym (ap length lanes))
-    (λ l. subst (λ (p : Paged). IsLane (slice_get r.lanes.items l) (pages.paged_face p l)) (sym paged) (subst (λ (ls : List Lane). IsLane (slice_get ls l) (pages.paged_face q.paged l)) (sym lanes) (g.lanes l)))
+    (λ l. subst (λ (p : Paged). IsLane (slice_get r.lanes.items l) (pages.paged_face p l)) (sym paged) (subst (λ (ls : List FrontLane). IsLane (slice_get ls l) (pages.paged_face q.paged l)) (sym lanes) (g.lanes l)))
 
 -- the lane of the arc was written, and its items stayed
-pub kept-items : (q : Queues) (told : Option Pages) (r : Queues) (arc : ℕ) (lane new : Lane) → arc < size q → slice_get q.lanes.items arc ≡ Some lane → r.lanes.items ≡ set q.lanes.items arc new → r.paged ≡ q.paged
+pub kept-items : (q : Queues) (told : Option Pages) (r : Queues) (arc : ℕ) (lane new : FrontLane) → arc < size q → slice_get q.lanes.items arc ≡ Some lane → r.lanes.items ≡ set q.lanes.items arc new → r.paged ≡ q.paged
     → new.front.items ≡ lane.front.items → items_on r told arc ≡ items_on q told arc
 kept-items q told r arc lane new inside was lanes paged front =
-    let here : slice_get r.lanes.items arc ≡ Some new = ap (λ (ls : List Lane). slice_get ls arc) lanes ∙ get_set_same q.lanes.items arc new inside in
-    ap (λ (o : Option Lane). front_at o ++ pages.paged_items_on r.paged told arc) here ∙ ap (λ (xs : List Item). xs ++ pages.paged_items_on r.paged told arc) front
-    ∙ ap (λ (p : Paged). lane.front.items ++ pages.paged_items_on p told arc) paged ∙ ap (λ (o : Option Lane). front_at o ++ pages.paged_items_on q.paged told arc) (sym was)
+    let here : slice_get r.lanes.items arc ≡ Some new = ap (λ (ls : List FrontLane). slice_get ls arc) lanes ∙ get_set_same q.lanes.items arc new inside in
+    ap (λ (o : Option FrontLane). front_at o ++ pages.paged_items_on r.paged told arc) here ∙ ap (λ (xs : List Item). xs ++ pages.paged_items_on r.paged told arc) front
+    ∙ ap (λ (p : Paged). lane.front.items ++ pages.paged_items_on p told arc) paged ∙ ap (λ (o : Option FrontLane). front_at o ++ pages.paged_items_on q.paged told arc) (sym was)
 
 -- the first item of the arc whose lane was written is gone
-pub taken-items : (q : Queues) (told : Option Pages) (r : Queues) (now : Option Pages) (arc : ℕ) (lane new : Lane) (item : Item) → arc < size q → slice_get q.lanes.items arc ≡ Some lane → r.lanes.items ≡ set q.lanes.items arc new
+pub taken-items : (q : Queues) (told : Option Pages) (r : Queues) (now : Option Pages) (arc : ℕ) (lane new : FrontLane) (item : Item) → arc < size q → slice_get q.lanes.items arc ≡ Some lane → r.lanes.items ≡ set q.lanes.items arc new
     → lane.front.items ++ pages.paged_items_on q.paged told arc ≡ item ∷ (new.front.items ++ pages.paged_items_on r.paged now arc) → items_on q told arc ≡ item ∷ items_on r now arc
 taken-items q told r now arc lane new item inside was lanes own =
-    let here : slice_get r.lanes.items arc ≡ Some new = ap (λ (ls : List Lane). slice_get ls arc) lanes ∙ get_set_same q.lanes.items arc new inside in
-    ap (λ (o : Option Lane). front_at o ++ pages.paged_items_on q.paged told arc) was ∙ own ∙ ap (λ (o : Option Lane). item ∷ (front_at o ++ pages.paged_items_on r.paged now arc)) (sym here)
+    let here : slice_get r.lanes.items arc ≡ Some new = ap (λ (ls : List FrontLane). slice_get ls arc) lanes ∙ get_set_same q.lanes.items arc new inside in
+    ap (λ (o : Option FrontLane). front_at o ++ pages.paged_items_on q.paged told arc) was ∙ own ∙ ap (λ (o : Option FrontLane). item ∷ (front_at o ++ pages.paged_items_on r.paged now arc)) (sym here)
 
 -- what all fronts hold
 pub bounded : (q : Queues) (told : Option Pages) → Together q told → IsBounded q
@@ -94,7 +94,7 @@ bounded q told g =
     let each : (arc : ℕ) → bytes_taken (front_at (slice_get lanes arc)) ≤ 8192 = λ arc. omega (arith, bytes-within (front_at (slice_get lanes arc)), (g.lanes arc).held, (g.lanes arc).page) in
     record {
       each = each;
-      all = omega (arith, sum_by-le (λ (lane : Lane). bytes_taken lane.front.items) 8192 lanes (λ arc lane inside. subst (λ (o : Option Lane). bytes_taken (front_at o) ≤ 8192) (slice_get-get_or lanes arc lane inside) (each arc)));
+      all = omega (arith, sum_by-le (λ (lane : FrontLane). bytes_taken lane.front.items) 8192 lanes (λ arc lane inside. subst (λ (o : Option FrontLane). bytes_taken (front_at o) ≤ 8192) (slice_get-get_or lanes arc lane inside) (each arc)));
     }
 
 -- where nothing of an arc is said to be in pages, nothing is
@@ -110,7 +110,7 @@ no-nodes q told arc g none = by (pages.nodes_on q arc) refl
         let zero_is = none-first (pages.paged_face q arc).count (sym own.first ∙ ap is_some none) in
         absurd (omega (arith, some, all, zero_is))
 
-pub none-paged : (q : Queues) (told : Option Pages) (arc : ℕ) (lane : Lane) → Together q told → slice_get q.lanes.items arc ≡ Some lane → lane.behind ≡ None → pages.paged_items_on q.paged told arc ≡ []
+pub none-paged : (q : Queues) (told : Option Pages) (arc : ℕ) (lane : FrontLane) → Together q told → slice_get q.lanes.items arc ≡ Some lane → lane.behind ≡ None → pages.paged_items_on q.paged told arc ≡ []
 none-paged q told arc lane g was none =
     let own = own-lane q told arc lane g was in
     ap (pages.items_along q.paged.pool told q.paged.kept.items) (no-nodes q.paged told arc g.paged (sym own.behind ∙ none))
@@ -118,13 +118,13 @@ none-paged q told arc lane g was none =
 -- ---- new queues
 
 -- a lane more is read at its place, and all others as before
-pub empty-more : (lanes : List Lane) (lane : Lane) → IsEmpty (Some lane) → ((arc : ℕ) → IsEmpty (slice_get lanes arc)) → (arc : ℕ) → IsEmpty (slice_get (lanes ++ lane ∷ []) arc)
+pub empty-more : (lanes : List FrontLane) (lane : FrontLane) → IsEmpty (Some lane) → ((arc : ℕ) → IsEmpty (slice_get lanes arc)) → (arc : ℕ) → IsEmpty (slice_get (lanes ++ lane ∷ []) arc)
 empty-more [] lane here others zero = here
 empty-more [] lane here others (suc arc) = record { face = refl; front = refl; behind = refl; held = refl }
 empty-more (x ∷ lanes) lane here others zero = others 0
 empty-more (x ∷ lanes) lane here others (suc arc) = empty-more lanes lane here (λ a. others (suc a)) arc
 
-empty-lane : (lane : Option Lane) (paged : Face) → IsEmpty lane → paged ≡ no_face → IsLane lane paged
+empty-lane : (lane : Option FrontLane) (paged : Face) → IsEmpty lane → paged ≡ no_face → IsLane lane paged
 empty-lane lane paged e p =
     let none : length (front_at lane) ≡ 0 = ap length e.front in
     let no_rooms : rooms_of (front_at lane) ≡ 0 = ap rooms_of e.front in

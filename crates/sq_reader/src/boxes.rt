@@ -2,7 +2,6 @@
 ghost use Rattle.std.specs.Prelude.{◌≡◌, ◌<◌, ◌^◌, ◌++◌, ◌&&◌, not, true, false, Ok, Err, IfOk, IfErr, IfSome, length, option_map, replicate};
 ghost use Rattle.std.specs.List.{list_all};
 ghost use Rattle.sq_words.specs.Lists.{contains_bytes};
-ghost use Rattle.sq_expr.specs.Kinds.{same_kind, same_kinds};
 ghost use Rattle.sq_graph.specs.Wires.{producer_of};
 ghost use Rattle.sq_net.specs.Names.{is_name};
 ghost use Rattle.sq_reader.specs.Columns.{bad_name, columns_known, columns_taken, kinds_set, same_columns, same_names, set_names, set_texts};
@@ -13,7 +12,7 @@ ghost use Rattle.sq_tables.specs.Refusals.{is_memory};
 use crate::expressions::{parsed, predicate_in, set_in};
 use crate::push;
 use crate::sources::is_among;
-use sq_expr::{Ast, Typed};
+use sq_expr::{Ast, Typed, same_kinds};
 use sq_graph::{Producer, Wiring, given_by};
 use sq_net::{NetErr, Node, Source};
 use sq_rules::is_name;
@@ -34,30 +33,6 @@ fn same_names(a: &[Name], b: &[Name]) -> bool
             [y, more_b @ ..] => same_text(x.as_str(), y.as_str()) && same_names(more_a, more_b),
         },
     }
-}
-
-fn same_kinds(a: &[Kind], b: &[Kind]) -> bool
-    ensures { result ≡ same_kinds a.now b.now }
-{
-    match a {
-        [] => match b {
-            [] => true,
-            [_, ..] => false,
-        },
-        [x, more_a @ ..] => match b {
-            [] => false,
-            [y, more_b @ ..] => same_kind(*x, *y) && same_kinds(more_a, more_b),
-        },
-    }
-}
-
-fn same_kind(a: Kind, b: Kind) -> bool
-    ensures { result ≡ same_kind a b }
-{
-    matches!(
-        (a, b),
-        (Kind::Int, Kind::Int) | (Kind::Bool, Kind::Bool) | (Kind::Text, Kind::Text)
-    )
 }
 
 fn same_columns(a: &Schema, b: &Schema) -> bool

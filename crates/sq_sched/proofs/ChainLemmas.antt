@@ -5,14 +5,14 @@ use Rattle.std.specs.List.{range_with_len}
 use Rattle.std.proofs.Math.Seq.{drop-length}
 use Rattle.std.proofs.lemmas.List.{length-map}
 use Rattle.std.proofs.lemmas.List.FromFn.{length-range_with_len}
-use Rattle.sq_link.specs.ChainLists.{Chained, list_at, StandsIn, IsLoose, IsChained, without as all_but}
+use Rattle.sq_link.specs.ChainLists.{Chained, StandsIn, IsLoose, IsChained, without as all_but}
 use Rattle.sq_sched.specs.ReadyLists.{without_actor, AreActors, OnlyOnce, ready_in, IsReadyList}
 use Rattle.sq_sched.proofs.ReadyLemmas.{contained, not-contained, stands, once-apart, without-all, length-without, few, room}
-use Rattle.sq_words.specs.Lists.{contains_number}
+use Rattle.sq_words.specs.Lists.{contains_number, nth}
 use Rattle.sq_link.proofs.ChainLemmas.{first-without}
 
 -- what stands in a list stands in the first, where there is one alone
-in-first : (lists : List (List ℕ)) (l n : ℕ) → length lists ≡ 1 → StandsIn n (list_at lists l) → StandsIn n (list_at lists 0)
+in-first : (lists : List (List ℕ)) (l n : ℕ) → length lists ≡ 1 → StandsIn n (nth lists l) → StandsIn n (nth lists 0)
 in-first [] l n one h = absurd (omega arith)
 in-first (xs ∷ []) zero n one h = h
 in-first (xs ∷ []) (suc l) n one h = absurd h
@@ -46,7 +46,7 @@ loose-in n count chains a r low new = record {
 
 -- an actor is ready where its node names a list
 pub listed-in : (n count : ℕ) (chains : Chained) (a : ℕ) (o : Option ℕ) → IsReadyList n chains count
-    → MatchOption o ((l : ℕ) → ¬ (StandsIn a (list_at chains.lists l))) (λ l. (l < length chains.lists) × StandsIn a (list_at chains.lists l))
+    → MatchOption o ((l : ℕ) → ¬ (StandsIn a (nth chains.lists l))) (λ l. (l < length chains.lists) × StandsIn a (nth chains.lists l))
     → is_some o ≡ contains_number (ready_in chains) a
 listed-in n count chains a None r h = sym (not-contained (ready_in chains) a (h 0))
 listed-in n count chains a (Some l) r h = sym (contained (ready_in chains) a (in-first chains.lists l a r.one h.1))

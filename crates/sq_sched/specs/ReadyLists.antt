@@ -1,7 +1,7 @@
 -- The ready list.
 use Rattle.std.specs.Prelude.{◌≡◌, ℕ, ◌==◌, ◌<◌, true, false, List, [], ◌∷◌, length, if◌then◌else◌}
-use Rattle.sq_link.specs.ChainLists.{Chained, list_at}
-use Rattle.sq_words.specs.Lists.{contains_number}
+use Rattle.sq_link.specs.ChainLists.{Chained}
+use Rattle.sq_words.specs.Lists.{contains_number, nth}
 
 -- actors below a number, of which some are ready, in order
 pub record ReadyTable : Type 0 where
@@ -24,7 +24,7 @@ OnlyOnce (x ∷ xs) = (contains_number xs x ≡ false) × OnlyOnce xs
 
 -- the actors that the first list of some chains holds
 abbrev pub ready_in : Chained → List ℕ
-ready_in chains = list_at chains.lists 0
+ready_in chains = nth chains.lists 0
 
 -- chains of one list, with a node for each actor below a number and none free; so many stand in the list
 pub record IsReadyList (actors : ℕ) (chains : Chained) (count : ℕ) : Type 0 where

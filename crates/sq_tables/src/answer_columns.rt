@@ -6,7 +6,7 @@ ghost use Rattle.sq_tables.specs.Documents.{each_item, list_in, required};
 ghost use Rattle.sq_tables.specs.Readings.{Reads};
 ghost use Rattle.sq_tables.specs.Shapes.{counting_in, function_in, answer_column_in, over_named};
 
-use crate::document::{Array, Table, Unread, Value, text_in, value_at};
+use crate::document::{Array, Table, TableErr, Value, text_in, value_at};
 use crate::tables::{Answer, AnswerColumn, Over};
 use sq_value::{ListOf, same_text};
 use std::alloc::{AllocError, Global};
@@ -35,15 +35,15 @@ fn over_named(word: &str) -> Option<Over>
     None
 }
 
-fn counting_in(alloc: Global, name: &Value, word: &Value) -> Result<AnswerColumn, Unread>
+fn counting_in(alloc: Global, name: &Value, word: &Value) -> Result<AnswerColumn, TableErr>
     ensures { Reads result (counting_in (view name.now) (view word.now)) }
 {
     let name = text_in(alloc, name)?;
     let Some(word) = word.as_str() else {
-        return Err(Unread::Shape);
+        return Err(TableErr::Shape);
     };
     if !same_text(word, "count") {
-        return Err(Unread::Shape);
+        return Err(TableErr::Shape);
     }
     Ok(AnswerColumn {
         name,
@@ -56,16 +56,16 @@ fn function_in(
     name: &Value,
     word: &Value,
     field: &Value,
-) -> Result<AnswerColumn, Unread>
+) -> Result<AnswerColumn, TableErr>
     ensures { Reads result (function_in (view name.now) (view word.now) (view field.now)) }
 {
     let name = text_in(alloc, name)?;
     let Some(word) = word.as_str() else {
-        return Err(Unread::Shape);
+        return Err(TableErr::Shape);
     };
     let field = text_in(alloc, field)?;
     let Some(over) = over_named(word) else {
-        return Err(Unread::Shape);
+        return Err(TableErr::Shape);
     };
     Ok(AnswerColumn {
         name,
@@ -73,11 +73,11 @@ fn function_in(
     })
 }
 
-fn answer_column_in(alloc: Global, value: &Value) -> Result<AnswerColumn, Unread>
+fn answer_column_in(alloc: Global, value: &Value) -> Result<AnswerColumn, TableErr>
     ensures { Reads result (answer_column_in (view value.now)) }
 {
     let Some(items) = value.as_array() else {
-        return Err(Unread::Shape);
+        return Err(TableErr::Shape);
     };
     if items.len() == 2 {
         return counting_in(alloc, &items[0], &items[1]);
@@ -85,7 +85,7 @@ fn answer_column_in(alloc: Global, value: &Value) -> Result<AnswerColumn, Unread
     if items.len() == 3 {
         return function_in(alloc, &items[0], &items[1], &items[2]);
     }
-    Err(Unread::Shape)
+    Err(TableErr::Shape)
 }
 
 fn answer_columns_among(
@@ -98,8 +98,8 @@ fn answer_columns_among(
     for item in items {
         match answer_column_in(alloc, item) {
             Ok(column) => found.push(column)?,
-            Err(Unread::Shape) => return Ok(None),
-            Err(Unread::Memory) => return Err(AllocError),
+            Err(TableErr::Shape) => return Ok(None),
+            Err(TableErr::Memory) => return Err(AllocError),
         }
     }
     Ok(Some(found))
@@ -109,17 +109,17 @@ fn answer_columns_among(
 pub(crate) fn answer_columns_at(
     alloc: Global,
     table: &Table,
-) -> Result<ListOf<AnswerColumn>, Unread>
+) -> Result<ListOf<AnswerColumn>, TableErr>
     ensures { Reads result (required (list_in answer_column_in) (get_member (codes "give") (table_view table.now))) }
 {
     let Some(value) = value_at(table, "give") else {
-        return Err(Unread::Shape);
+        return Err(TableErr::Shape);
     };
     let Some(items) = value.as_array() else {
-        return Err(Unread::Shape);
+        return Err(TableErr::Shape);
     };
     match answer_columns_among(alloc, items)? {
         Some(columns) => Ok(ListOf::new(columns)),
-        None => Err(Unread::Shape),
+        None => Err(TableErr::Shape),
     }
 }

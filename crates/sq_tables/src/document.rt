@@ -20,21 +20,21 @@ pub(crate) use toml::{Table, Value};
 
 /// Why a value can't be read as what is wanted.
 #[derive(Clone, Copy, PartialEq, Eq, Drop)]
-pub(crate) enum Unread {
+pub(crate) enum TableErr {
     /// It isn't there, or is of another kind.
     Shape,
     Memory,
 }
 
-impl From<AllocError> for Unread {
+impl From<AllocError> for TableErr {
     ghost use Rattle.std.specs.Prelude.{◌≡◌};
-    ghost use Rattle.sq_tables.specs.declared.document.Unread.{Unread};
-    ghost use Rattle.sq_tables.specs.declared.document.Unread.TheVariants as unread;
+    ghost use Rattle.sq_tables.specs.declared.document.TableErr.{TableErr};
+    ghost use Rattle.sq_tables.specs.declared.document.TableErr.TheVariants as unread;
 
     ghost from_gives = { λ _ e. e ≡ unread.Memory };
 
-    fn from(_e: AllocError) -> Unread {
-        Unread::Memory
+    fn from(_e: AllocError) -> TableErr {
+        TableErr::Memory
     }
 }
 
@@ -86,41 +86,41 @@ pub(crate) fn has_only(table: &Table, known: &[&str]) -> bool
     all_known(table, known)
 }
 
-pub(crate) fn text_in(alloc: Global, value: &Value) -> Result<Name, Unread>
+pub(crate) fn text_in(alloc: Global, value: &Value) -> Result<Name, TableErr>
     ensures { Reads result (as_str (view value.now)) }
 {
     match value.as_str() {
         Some(text) => Ok(Name::new(alloc, text)?),
-        None => Err(Unread::Shape),
+        None => Err(TableErr::Shape),
     }
 }
 
 /// The text at a key.
-pub(crate) fn text_at(alloc: Global, table: &Table, key: &str) -> Result<Name, Unread>
+pub(crate) fn text_at(alloc: Global, table: &Table, key: &str) -> Result<Name, TableErr>
     ensures { Reads result (required as_str (get_member key.now (table_view table.now))) }
 {
     match value_at(table, key) {
         Some(value) => text_in(alloc, value),
-        None => Err(Unread::Shape),
+        None => Err(TableErr::Shape),
     }
 }
 
 /// The number at a key.
-pub(crate) fn number_at(table: &Table, key: &str) -> Result<i64, Unread>
+pub(crate) fn number_at(table: &Table, key: &str) -> Result<i64, TableErr>
     ensures { Reads result (required as_integer (get_member key.now (table_view table.now))) }
 {
     match value_at(table, key) {
-        Some(value) => value.as_integer().ok_or(Unread::Shape),
-        None => Err(Unread::Shape),
+        Some(value) => value.as_integer().ok_or(TableErr::Shape),
+        None => Err(TableErr::Shape),
     }
 }
 
 /// The number at a key, or this one where the key isn't there.
-pub(crate) fn number_or(table: &Table, key: &str, default: i64) -> Result<i64, Unread>
+pub(crate) fn number_or(table: &Table, key: &str, default: i64) -> Result<i64, TableErr>
     ensures { Reads result (optional default as_integer (get_member key.now (table_view table.now))) }
 {
     match value_at(table, key) {
-        Some(value) => value.as_integer().ok_or(Unread::Shape),
+        Some(value) => value.as_integer().ok_or(TableErr::Shape),
         None => Ok(default),
     }
 }
@@ -138,30 +138,34 @@ fn texts_among(alloc: Global, items: &Array) -> Result<Option<Vec<Name>>, AllocE
     Ok(Some(found))
 }
 
-fn texts_in(alloc: Global, value: &Value) -> Result<ListOf<Name>, Unread>
+fn texts_in(alloc: Global, value: &Value) -> Result<ListOf<Name>, TableErr>
     ensures { Reads result (list_in as_str (view value.now)) }
 {
     let Some(items) = value.as_array() else {
-        return Err(Unread::Shape);
+        return Err(TableErr::Shape);
     };
     match texts_among(alloc, items)? {
         Some(texts) => Ok(ListOf::new(texts)),
-        None => Err(Unread::Shape),
+        None => Err(TableErr::Shape),
     }
 }
 
 /// The list of texts at a key.
-pub(crate) fn texts_at(alloc: Global, table: &Table, key: &str) -> Result<ListOf<Name>, Unread>
+pub(crate) fn texts_at(alloc: Global, table: &Table, key: &str) -> Result<ListOf<Name>, TableErr>
     ensures { Reads result (required (list_in as_str) (get_member key.now (table_view table.now))) }
 {
     match value_at(table, key) {
         Some(value) => texts_in(alloc, value),
-        None => Err(Unread::Shape),
+        None => Err(TableErr::Shape),
     }
 }
 
 /// The list of texts at a key, or none where the key isn't there.
-pub(crate) fn any_texts_at(alloc: Global, table: &Table, key: &str) -> Result<ListOf<Name>, Unread>
+pub(crate) fn any_texts_at(
+    alloc: Global,
+    table: &Table,
+    key: &str,
+) -> Result<ListOf<Name>, TableErr>
     ensures { Reads result (optional [] (list_in as_str) (get_member key.now (table_view table.now))) }
 {
     match value_at(table, key) {
@@ -170,14 +174,14 @@ pub(crate) fn any_texts_at(alloc: Global, table: &Table, key: &str) -> Result<Li
     }
 }
 
-fn setting_in(alloc: Global, value: &Value) -> Result<Setting, Unread>
+fn setting_in(alloc: Global, value: &Value) -> Result<Setting, TableErr>
     ensures { Reads result (setting_in (view value.now)) }
 {
     let Some(items) = value.as_array() else {
-        return Err(Unread::Shape);
+        return Err(TableErr::Shape);
     };
     if items.len() != 2 {
-        return Err(Unread::Shape);
+        return Err(TableErr::Shape);
     }
     let name = text_in(alloc, &items[0])?;
     let text = text_in(alloc, &items[1])?;
@@ -191,8 +195,8 @@ fn settings_among(alloc: Global, items: &Array) -> Result<Option<Vec<Setting>>, 
     for item in items {
         match setting_in(alloc, item) {
             Ok(setting) => found.push(setting)?,
-            Err(Unread::Shape) => return Ok(None),
-            Err(Unread::Memory) => return Err(AllocError),
+            Err(TableErr::Shape) => return Ok(None),
+            Err(TableErr::Memory) => return Err(AllocError),
         }
     }
     Ok(Some(found))
@@ -203,18 +207,18 @@ pub(crate) fn settings_at(
     alloc: Global,
     table: &Table,
     key: &str,
-) -> Result<ListOf<Setting>, Unread>
+) -> Result<ListOf<Setting>, TableErr>
     ensures { Reads result (required (list_in setting_in) (get_member key.now (table_view table.now))) }
 {
     let Some(value) = value_at(table, key) else {
-        return Err(Unread::Shape);
+        return Err(TableErr::Shape);
     };
     let Some(items) = value.as_array() else {
-        return Err(Unread::Shape);
+        return Err(TableErr::Shape);
     };
     match settings_among(alloc, items)? {
         Some(settings) => Ok(ListOf::new(settings)),
-        None => Err(Unread::Shape),
+        None => Err(TableErr::Shape),
     }
 }
 
@@ -242,18 +246,18 @@ pub(crate) fn selectivity_at(
     alloc: Global,
     table: &Table,
     ports: usize,
-) -> Result<ListOf<i64>, Unread>
+) -> Result<ListOf<i64>, TableErr>
     ensures { Reads result (optional (default_selectivity ports) (list_in as_integer) (get_member (codes "selectivity") (table_view table.now))) }
 {
     let Some(value) = value_at(table, "selectivity") else {
         return Ok(all_kept(alloc, ports)?);
     };
     let Some(items) = value.as_array() else {
-        return Err(Unread::Shape);
+        return Err(TableErr::Shape);
     };
     match numbers_among(alloc, items)? {
         Some(numbers) => Ok(ListOf::new(numbers)),
-        None => Err(Unread::Shape),
+        None => Err(TableErr::Shape),
     }
 }
 
@@ -270,14 +274,14 @@ fn tables_among<'a>(alloc: Global, items: &'a Array) -> Result<Option<Vec<&'a Ta
     Ok(Some(found))
 }
 
-fn tables_in<'a>(alloc: Global, value: &'a Value) -> Result<Vec<&'a Table>, Unread>
+fn tables_in<'a>(alloc: Global, value: &'a Value) -> Result<Vec<&'a Table>, TableErr>
     ensures ok { IfOk result (λ v. list_in as_table (view value.now) ≡ Some (map (λ t. table_view t.now) v.items)) }
     ensures err { IfErr result (λ e. IsUnreadTable e (list_in as_table (view value.now))) }
 {
     let Some(items) = value.as_array() else {
-        return Err(Unread::Shape);
+        return Err(TableErr::Shape);
     };
-    tables_among(alloc, items)?.ok_or(Unread::Shape)
+    tables_among(alloc, items)?.ok_or(TableErr::Shape)
 }
 
 /// The list of tables at a key.
@@ -285,13 +289,13 @@ pub(crate) fn tables_at<'a>(
     alloc: Global,
     table: &'a Table,
     key: &str,
-) -> Result<Vec<&'a Table>, Unread>
+) -> Result<Vec<&'a Table>, TableErr>
     ensures ok { IfOk result (λ v. required (list_in as_table) (get_member key.now (table_view table.now)) ≡ Some (map (λ t. table_view t.now) v.items)) }
     ensures err { IfErr result (λ e. IsUnreadTable e (required (list_in as_table) (get_member key.now (table_view table.now)))) }
 {
     match value_at(table, key) {
         Some(value) => tables_in(alloc, value),
-        None => Err(Unread::Shape),
+        None => Err(TableErr::Shape),
     }
 }
 
@@ -300,7 +304,7 @@ pub(crate) fn any_tables_at<'a>(
     alloc: Global,
     table: &'a Table,
     key: &str,
-) -> Result<Vec<&'a Table>, Unread>
+) -> Result<Vec<&'a Table>, TableErr>
     ensures ok { IfOk result (λ v. optional [] (list_in as_table) (get_member key.now (table_view table.now)) ≡ Some (map (λ t. table_view t.now) v.items)) }
     ensures err { IfErr result (λ e. IsUnreadTable e (optional [] (list_in as_table) (get_member key.now (table_view table.now)))) }
 {

@@ -6,7 +6,7 @@ ghost use Rattle.sq_tables.specs.Documents.{each_item, list_in, optional};
 ghost use Rattle.sq_tables.specs.Readings.{Reads};
 ghost use Rattle.sq_tables.specs.Shapes.{even_points, point_in};
 
-use crate::document::{Array, Table, Unread, Value, value_at};
+use crate::document::{Array, Table, TableErr, Value, value_at};
 use sq_value::ListOf;
 use std::alloc::{AllocError, Global};
 
@@ -40,17 +40,17 @@ fn even_points(alloc: Global) -> Result<ListOf<(i64, i64)>, AllocError>
 }
 
 /// The points at the key `graph`, or those of the line from nothing to all where it isn't there.
-pub(crate) fn graph_at(alloc: Global, table: &Table) -> Result<ListOf<(i64, i64)>, Unread>
+pub(crate) fn graph_at(alloc: Global, table: &Table) -> Result<ListOf<(i64, i64)>, TableErr>
     ensures { Reads result (optional even_points (list_in point_in) (get_member (codes "graph") (table_view table.now))) }
 {
     let Some(value) = value_at(table, "graph") else {
         return Ok(even_points(alloc)?);
     };
     let Some(items) = value.as_array() else {
-        return Err(Unread::Shape);
+        return Err(TableErr::Shape);
     };
     match points_among(alloc, items)? {
         Some(points) => Ok(ListOf::new(points)),
-        None => Err(Unread::Shape),
+        None => Err(TableErr::Shape),
     }
 }

@@ -3,13 +3,13 @@ ghost use Rattle.std.specs.Prelude.{◌≡◌, ◌++◌, ◌∷◌, [], false, O
 ghost use Rattle.sq_net.specs.declared.NetErr.TheVariants as broken;
 ghost use Rattle.sq_net.specs.declared.Part.TheVariants as part;
 ghost use Rattle.toml.specs.View.{table_view};
-ghost use Rattle.sq_tables.specs.declared.document.Unread.TheVariants as unread;
+ghost use Rattle.sq_tables.specs.declared.document.TableErr.TheVariants as unread;
 ghost use Rattle.sq_tables.specs.Places.{part_place};
 ghost use Rattle.sq_tables.specs.Tables.{network_table_in, shaped_from};
 ghost use Rattle.sq_tables.specs.Refusals.{IsAnswerOf, is_memory};
 ghost use Rattle.sq_tables.specs.Shapes.{box_in, output_in, source_in};
 
-use crate::document::{Table, Unread};
+use crate::document::{Table, TableErr};
 use crate::shape::{box_in, output_in, source_in, top_in};
 use crate::tables::{BoxTable, NetworkTable, OutputTable, SourceTable, Version};
 use sq_net::{NetErr, Part, Place};
@@ -39,12 +39,12 @@ fn part_place(part: Part, number: usize) -> Result<Place, NetErr>
     }
 }
 
-fn unshaped(e: Unread, part: Part, number: usize) -> NetErr
+fn unshaped(e: TableErr, part: Part, number: usize) -> NetErr
     ensures { is_memory result ≡ false → (e ≡ unread.Shape) × (result ≡ broken.Shape (part_place part number)) }
 {
     match e {
-        Unread::Memory => NetErr::Memory,
-        Unread::Shape => match part_place(part, number) {
+        TableErr::Memory => NetErr::Memory,
+        TableErr::Shape => match part_place(part, number) {
             Ok(place) => NetErr::Shape(place),
             Err(e) => e,
         },

@@ -10,7 +10,7 @@ ghost use Rattle.sq_tables.specs.ShapeViews.{tables_seen};
 
 use crate::answer_columns::answer_columns_at;
 use crate::document::{
-    Table, Unread, any_tables_at, any_texts_at, has_only, number_at, number_or, selectivity_at,
+    Table, TableErr, any_tables_at, any_texts_at, has_only, number_at, number_or, selectivity_at,
     settings_at, tables_at, text_at, texts_at,
 };
 use crate::graphs::graph_at;
@@ -28,7 +28,7 @@ pub(crate) struct TopTables<'a> {
     pub(crate) outputs: Vec<&'a Table>,
 }
 
-pub(crate) fn top_in<'a>(alloc: Global, table: &'a Table) -> Result<TopTables<'a>, Unread>
+pub(crate) fn top_in<'a>(alloc: Global, table: &'a Table) -> Result<TopTables<'a>, TableErr>
     ensures ok { IfOk result (λ t. top_in (table_view table.now) ≡ Some (tables_seen t)) }
     ensures err { IfErr result (λ e. IsUnreadTable e (top_in (table_view table.now))) }
 {
@@ -36,7 +36,7 @@ pub(crate) fn top_in<'a>(alloc: Global, table: &'a Table) -> Result<TopTables<'a
         table,
         &["version", "epoch", "batch", "source", "box", "output"],
     ) {
-        return Err(Unread::Shape);
+        return Err(TableErr::Shape);
     }
     let epoch = number_or(table, "epoch", 1000)?;
     let batch = number_or(table, "batch", 1)?;
@@ -52,11 +52,11 @@ pub(crate) fn top_in<'a>(alloc: Global, table: &'a Table) -> Result<TopTables<'a
     })
 }
 
-pub(crate) fn source_in(alloc: Global, table: &Table) -> Result<SourceTable, Unread>
+pub(crate) fn source_in(alloc: Global, table: &Table) -> Result<SourceTable, TableErr>
     ensures { Reads result (source_in (table_view table.now)) }
 {
     if !has_only(table, &["name", "file", "fields"]) {
-        return Err(Unread::Shape);
+        return Err(TableErr::Shape);
     }
     let name = text_at(alloc, table, "name")?;
     let file = text_at(alloc, table, "file")?;
@@ -64,11 +64,11 @@ pub(crate) fn source_in(alloc: Global, table: &Table) -> Result<SourceTable, Unr
     Ok(SourceTable { name, file, fields })
 }
 
-pub(crate) fn output_in(alloc: Global, table: &Table) -> Result<OutputTable, Unread>
+pub(crate) fn output_in(alloc: Global, table: &Table) -> Result<OutputTable, TableErr>
     ensures { Reads result (output_in (table_view table.now)) }
 {
     if !has_only(table, &["name", "from", "weight", "graph"]) {
-        return Err(Unread::Shape);
+        return Err(TableErr::Shape);
     }
     let name = text_at(alloc, table, "name")?;
     let from = text_at(alloc, table, "from")?;
@@ -82,46 +82,46 @@ pub(crate) fn output_in(alloc: Global, table: &Table) -> Result<OutputTable, Unr
     })
 }
 
-fn filter_in(alloc: Global, table: &Table) -> Result<BodyTable, Unread>
+fn filter_in(alloc: Global, table: &Table) -> Result<BodyTable, TableErr>
     ensures { Reads result (filter_in (table_view table.now)) }
 {
     if !has_only(
         table,
         &["where", "name", "kind", "in", "cost", "selectivity"],
     ) {
-        return Err(Unread::Shape);
+        return Err(TableErr::Shape);
     }
     let preds = texts_at(alloc, table, "where")?;
     Ok(BodyTable::Filter { preds })
 }
 
-fn map_in(alloc: Global, table: &Table) -> Result<BodyTable, Unread>
+fn map_in(alloc: Global, table: &Table) -> Result<BodyTable, TableErr>
     ensures { Reads result (map_in (table_view table.now)) }
 {
     if !has_only(table, &["set", "name", "kind", "in", "cost", "selectivity"]) {
-        return Err(Unread::Shape);
+        return Err(TableErr::Shape);
     }
     let set = settings_at(alloc, table, "set")?;
     Ok(BodyTable::Map { set })
 }
 
-fn union_in(table: &Table) -> Result<BodyTable, Unread>
+fn union_in(table: &Table) -> Result<BodyTable, TableErr>
     ensures { Reads result (union_in (table_view table.now)) }
 {
     if !has_only(table, &["name", "kind", "in", "cost", "selectivity"]) {
-        return Err(Unread::Shape);
+        return Err(TableErr::Shape);
     }
     Ok(BodyTable::Union)
 }
 
-fn bsort_in(alloc: Global, table: &Table) -> Result<BodyTable, Unread>
+fn bsort_in(alloc: Global, table: &Table) -> Result<BodyTable, TableErr>
     ensures { Reads result (bsort_in (table_view table.now)) }
 {
     if !has_only(
         table,
         &["by", "slack", "name", "kind", "in", "cost", "selectivity"],
     ) {
-        return Err(Unread::Shape);
+        return Err(TableErr::Shape);
     }
     let by = text_at(alloc, table, "by")?;
     let slack = number_at(table, "slack")?;
@@ -176,11 +176,11 @@ fn has_aggregate_keys(version: Version, table: &Table) -> bool
     }
 }
 
-fn aggregate_in(alloc: Global, version: Version, table: &Table) -> Result<BodyTable, Unread>
+fn aggregate_in(alloc: Global, version: Version, table: &Table) -> Result<BodyTable, TableErr>
     ensures { Reads result (aggregate_in version (table_view table.now)) }
 {
     if !has_aggregate_keys(version, table) {
-        return Err(Unread::Shape);
+        return Err(TableErr::Shape);
     }
     let size = number_at(table, "size")?;
     let advance = number_at(table, "advance")?;
@@ -196,35 +196,40 @@ fn aggregate_in(alloc: Global, version: Version, table: &Table) -> Result<BodyTa
     })
 }
 
-fn join_in(alloc: Global, table: &Table) -> Result<BodyTable, Unread>
+fn join_in(alloc: Global, table: &Table) -> Result<BodyTable, TableErr>
     ensures { Reads result (join_in (table_view table.now)) }
 {
     if !has_only(
         table,
         &["size", "on", "name", "kind", "in", "cost", "selectivity"],
     ) {
-        return Err(Unread::Shape);
+        return Err(TableErr::Shape);
     }
     let size = number_at(table, "size")?;
     let on = text_at(alloc, table, "on")?;
     Ok(BodyTable::Join { size, on })
 }
 
-fn resample_in(alloc: Global, table: &Table) -> Result<BodyTable, Unread>
+fn resample_in(alloc: Global, table: &Table) -> Result<BodyTable, TableErr>
     ensures { Reads result (resample_in (table_view table.now)) }
 {
     if !has_only(
         table,
         &["size", "give", "name", "kind", "in", "cost", "selectivity"],
     ) {
-        return Err(Unread::Shape);
+        return Err(TableErr::Shape);
     }
     let size = number_at(table, "size")?;
     let give = answer_columns_at(alloc, table)?;
     Ok(BodyTable::Resample { size, give })
 }
 
-fn body_in(alloc: Global, version: Version, table: &Table, kind: &str) -> Result<BodyTable, Unread>
+fn body_in(
+    alloc: Global,
+    version: Version,
+    table: &Table,
+    kind: &str,
+) -> Result<BodyTable, TableErr>
     ensures { Reads result (body_in version kind.now (table_view table.now)) }
 {
     if same_text(kind, "filter") {
@@ -248,7 +253,7 @@ fn body_in(alloc: Global, version: Version, table: &Table, kind: &str) -> Result
     if same_text(kind, "resample") {
         return resample_in(alloc, table);
     }
-    Err(Unread::Shape)
+    Err(TableErr::Shape)
 }
 
 /// How many ports a box has.
@@ -267,7 +272,7 @@ pub fn port_count(body: &BodyTable) -> usize
 }
 
 // What a box does, by the kind that its table names.
-fn body_at(alloc: Global, version: Version, table: &Table) -> Result<BodyTable, Unread>
+fn body_at(alloc: Global, version: Version, table: &Table) -> Result<BodyTable, TableErr>
     ensures { Reads result (option_and_then (λ kind. body_in version kind (table_view table.now)) (required as_str (get_member (codes "kind") (table_view table.now)))) }
 {
     let kind = text_at(alloc, table, "kind")?;
@@ -275,17 +280,17 @@ fn body_at(alloc: Global, version: Version, table: &Table) -> Result<BodyTable, 
 }
 
 // The selectivity of each port, one for each.
-fn even_at(alloc: Global, table: &Table, ports: usize) -> Result<ListOf<i64>, Unread>
+fn even_at(alloc: Global, table: &Table, ports: usize) -> Result<ListOf<i64>, TableErr>
     ensures { Reads result (option_and_then (λ selectivity. when (length selectivity == ports) selectivity) (optional (default_selectivity ports) (list_in as_integer) (get_member (codes "selectivity") (table_view table.now)))) }
 {
     let selectivity = selectivity_at(alloc, table, ports)?;
     if selectivity.as_slice().len() != ports {
-        return Err(Unread::Shape);
+        return Err(TableErr::Shape);
     }
     Ok(selectivity)
 }
 
-pub(crate) fn box_in(alloc: Global, version: Version, table: &Table) -> Result<BoxTable, Unread>
+pub(crate) fn box_in(alloc: Global, version: Version, table: &Table) -> Result<BoxTable, TableErr>
     ensures { Reads result (box_in version (table_view table.now)) }
 {
     let body = body_at(alloc, version, table)?;

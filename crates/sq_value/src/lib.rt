@@ -15,6 +15,7 @@ mod laws;
 mod numbers;
 mod order;
 mod short;
+mod streams;
 mod written;
 
 pub use copies::{copy_fields, copy_name, copy_schema, copy_tuple, copy_txt, copy_value};
@@ -24,6 +25,7 @@ pub use order::{all_differ, compare, compare_bytes, fits, same_bytes, same_text}
 use short::{Few, ROOM};
 use std::alloc::{AllocError, Global};
 use std::marker::Model;
+pub use streams::stream_in;
 pub use written::{ValueErr, negative, positive, read_int, read_value, write_value};
 
 /// A list that a public struct holds. Contracts see it as the list of its items.

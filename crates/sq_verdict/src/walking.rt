@@ -14,8 +14,8 @@ use crate::dropping::drop_told_in;
 use crate::recording::recorded_in;
 use crate::{AuditWhy, Verdict};
 use sq_lines::{Quoter, append_output_line};
-use sq_value::{Name, Tuple, same_bytes};
-use sq_wanted::{Wanted, has_more, next_place, stream_in};
+use sq_value::{Name, Tuple, same_bytes, stream_in};
+use sq_wanted::{Wanted, has_more, next_place};
 use std::alloc::{AllocError, Global};
 use std::collections::BTreeSet;
 

@@ -9,4 +9,4 @@ mod skipping;
 mod wanted;
 
 pub use skipping::next_place;
-pub use wanted::{Wanted, has_more, stream_in};
+pub use wanted::{Wanted, has_more};

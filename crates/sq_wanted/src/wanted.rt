@@ -1,11 +1,10 @@
 // What an output is to show, and whether it is still to show something.
 ghost use Rattle.std.specs.Prelude.{◌≡◌, ℕ, List, map, length, nat_lt};
-ghost use Rattle.sq_words.specs.Lists.{nth};
 ghost use Rattle.sq_wanted.specs.Showing.{IsBelow, count_of, shown_one};
 ghost use Rattle.sq_wanted.specs.Places.{HoldRecord, IsAtPlace};
 
 use crate::skipping::next_place;
-use sq_value::{Name, Tuple};
+use sq_value::{Name, Tuple, stream_in};
 use std::collections::BTreeSet;
 
 /// What an output is to show.
@@ -17,16 +16,6 @@ pub struct Wanted {
     pub stream: u32,
     /// The number of the drop above it and the length of that drop's batches in ticks; none where no drop is above.
     pub above: Option<(u32, u64)>,
-}
-
-/// The stream of this number among some, or no tuples where there is none.
-pub fn stream_in(streams: &[Vec<Tuple>], stream: u32) -> &[Tuple]
-    ensures { result.now ≡ nth (map (λ v. v.items) streams.now) stream }
-{
-    match streams.get(stream as usize) {
-        Some(tuples) => tuples.as_slice(),
-        None => &[],
-    }
 }
 
 /// Whether an output is still to show a tuple.

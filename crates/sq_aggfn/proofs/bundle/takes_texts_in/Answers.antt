@@ -1,7 +1,7 @@
 use Rattle.std.proofs.Common.{arith, sym, subst, ◌∙◌, ◌≡◌, ◌<◌, false, length, get_or}
 use Rattle.std.proofs.lemmas.List.{get_or_default}
 use Rattle.sq_aggfn.specs.declared.Func.TheVariants as func
-use Rattle.sq_aggfn.specs.declared.parts.Part.{Part}
+use Rattle.sq_aggfn.specs.declared.parts.PartialAggregate.{PartialAggregate}
 use Rattle.sq_aggfn.specs.Parts.{takes_text}
 use Rattle.sq_aggfn.proofs.PartBounds.{next_place}
 use Rattle.sq_aggfn.proofs.bundle.takes_texts_in.Goals as goal
@@ -18,5 +18,5 @@ loop-i-preserved c =
     let hp : i < length ps = omega arith in
     let hq : i < length qs = omega arith in
     next_place (λ k d. takes_text (get_or fs k func.Count) (get_or ps k d) (get_or qs k d) ≡ false) i c.loop-i.invariant
-    (λ d. subst (λ (z : Part). takes_text f z (get_or qs i d) ≡ false) (c.index-parts-i.is ∙ get_or_default ps i p d hp)
-    (subst (λ (z : Part). takes_text f p z ≡ false) (c.index-others-i.is ∙ get_or_default qs i q d hq) (sym c.takes_text_in.ensures ∙ c.if-takes_text_in.false)))
+    (λ d. subst (λ (z : PartialAggregate). takes_text f z (get_or qs i d) ≡ false) (c.index-parts-i.is ∙ get_or_default ps i p d hp)
+    (subst (λ (z : PartialAggregate). takes_text f p z ≡ false) (c.index-others-i.is ∙ get_or_default qs i q d hq) (sym c.takes_text_in.ensures ∙ c.if-takes_text_in.false)))

@@ -1,12 +1,12 @@
 use Rattle.std.proofs.Common.{◌≡◌, ◌∙◌, [], ap, arith, length, map, sym, vec_len}
 use Rattle.std.proofs.lemmas.Grind.{common_steps}
 use Rattle.std.proofs.lemmas.List.{get_or-map, length-map}
-use Rattle.sq_model.proofs.ArcLemmas.{arc_held}
+use Rattle.sq_model.proofs.ArcLemmas.{arc_held, arcs_carry}
 use Rattle.sq_model.proofs.arcs.full.Goals as goal
 
 pub swap_remove-requires : goal.swap_remove-requires
 swap_remove-requires c =
-    let is = rw c.in_ok-streams.ensures at c.index-stream.ensures in
+    let is = rw (c.in_ok-streams.ensures ∙ sym (arcs_carry c.args.n.now.wires)) at c.index-stream.ensures in
     let held = arc_held c.args.n.now (map (λ t. t.items) c.in_ok-copies.field-0.items) (map (λ t. t.items) c.in_ok-full.full.items) c.args.arc c.index-stream.result.now c.requires.placed c.requires.arc is c.in_ok-full.ensures in
     let low = held.0 in
     let many = length-map c.in_ok-full.full.items (λ t. t.items) in
@@ -15,7 +15,7 @@ swap_remove-requires c =
 
 pub returns : goal.returns
 returns c =
-    let is = rw c.in_ok-streams.ensures at c.index-stream.ensures in
+    let is = rw (c.in_ok-streams.ensures ∙ sym (arcs_carry c.args.n.now.wires)) at c.index-stream.ensures in
     let held = arc_held c.args.n.now (map (λ t. t.items) c.in_ok-copies.field-0.items) (map (λ t. t.items) c.in_ok-full.full.items) c.args.arc c.index-stream.result.now c.requires.placed c.requires.arc is c.in_ok-full.ensures in
     rw (← c.in_ok-copies.ensures)
     (ap (λ v. v.items) c.swap_remove.ensures.value

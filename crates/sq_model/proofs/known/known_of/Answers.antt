@@ -12,6 +12,7 @@ use Rattle.sq_points.specs.Points.{windows_of}
 use Rattle.sq_points.proofs.Bounds.{few_arcs, few_places}
 use Rattle.sq_model.specs.FullStreams.{full_streams}
 use Rattle.sq_model.specs.GivenLevels.{IsMeasured}
+use Rattle.sq_model.proofs.ArcLemmas.{arcs_carry}
 use Rattle.sq_model.proofs.PlacedLemmas.{placed_of}
 use Rattle.sq_model.proofs.StreamLemmas.{full_are_streams}
 use Rattle.sq_model.proofs.MeasuredLemmas.{all-measured}
@@ -44,7 +45,7 @@ returns-clause-safe c =
           let all = few_places n c.requires.sound in
           omega (arith, same, many, few, all));
       few_arcs =
-          (let same = ap (λ (as' : List ℕ). length as') c.in_ok-streams_on_arcs.ensures in
+          (let same = ap (λ (as' : List ℕ). length as') (c.in_ok-arc_streams.ensures ∙ sym (arcs_carry n.wires)) in
           let many = length-map (arcs_of n.wires) (λ (a : Arc). a.stream) in
           let few = few_arcs n c.requires.sound in
           omega (arith, same, many, few));
@@ -55,7 +56,7 @@ pub returns-clause-known : goal.returns-clause-known
 returns-clause-known c = record {
   sound = c.requires.sound;
   streams = c.in_ok-full_streams.ensures ∙ ap (full_streams c.args.n.now) c.in_ok-copies.ensures;
-  arcs = c.in_ok-streams_on_arcs.ensures;
+  arcs = c.in_ok-arc_streams.ensures ∙ sym (arcs_carry c.args.n.now.wires);
   points = c.in_ok-points.ensures;
   levels = c.in_ok-levels.ensures.levels c.args.seed;
   seed = refl;

@@ -1,6 +1,7 @@
 use Rattle.std.proofs.Common.{◌∙◌, ℕ, List, sym, ap, subst, arith}
+use Rattle.sq_words.specs.Lists.{nth}
 use Rattle.sq_outside.specs.Disks.{DiskLog}
-use Rattle.sq_link.specs.ChainLists.{Chained, head_or, list_at}
+use Rattle.sq_link.specs.ChainLists.{Chained, head_or}
 use Rattle.std.specs.Prelude.{None}
 use Rattle.sq_pool.proofs.TrustLemmas.{IsLater-trans}
 use Rattle.sq_paged.specs.Faces.{IsFirstAlong, IsFirstPaged}
@@ -81,7 +82,7 @@ drop_first-requires-clause-arc g c =
     taken-inside c.args.self.now _ c.take_first.new.self _ c.args.arc c.in-Some.node c.in-Ok.item c.in-Ok.ensures.ok (inside c.args.self.now _ c.args.arc c.requires.together c.requires.there)
 
 pub drop_first-requires-clause-first : goal.drop_first-requires-clause-first
-drop_first-requires-clause-first g c = ap (λ (x : Chained). head_or (list_at x.lists c.args.arc) None) c.in-Ok.ensures.ok.state ∙ sym c.in-Some.ensures
+drop_first-requires-clause-first g c = ap (λ (x : Chained). head_or (nth x.lists c.args.arc) None) c.in-Ok.ensures.ok.state ∙ sym c.in-Some.ensures
 
 pub drop_first-requires-clause-node : goal.drop_first-requires-clause-node
 drop_first-requires-clause-node g c =

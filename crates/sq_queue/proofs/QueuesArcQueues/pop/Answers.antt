@@ -9,7 +9,7 @@ use Rattle.std.proofs.lemmas.Option.{slice_get_read}
 use Rattle.sq_paged.specs.Faces as pages
 use Rattle.sq_paged.specs.Fronts.{IsPopped}
 use Rattle.sq_queue.specs.Faces.{LeadsOr, face, face_at, front_at, items_on}
-use Rattle.sq_queue.specs.declared.Lane.{Lane}
+use Rattle.sq_queue.specs.declared.FrontLane.{FrontLane}
 use Rattle.sq_queue.specs.declared.Queues.{Queues}
 use Rattle.sq_queue.proofs.LaneLemmas.{Takes, taken-lane, taken-face, taken-sound, other-face, front-counted}
 use Rattle.sq_queue.proofs.TogetherLemmas.{own-lane, written-together, read-together, same-lanes, taken-items, other-items}
@@ -24,7 +24,7 @@ pop_behind-requires-clause-some g c =
     let q = c.args.self.now in
     let arc = c.args.arc in
     let lane = c.index_mut-lane.result.now in
-    subst (λ (ls : List Lane). is_some (face_at (slice_get ls arc)).first ≡ true) (sym (same-lanes q.lanes.items arc lane c.index_mut-lane.ensures.value)) c.requires.some
+    subst (λ (ls : List FrontLane). is_some (face_at (slice_get ls arc)).first ≡ true) (sym (same-lanes q.lanes.items arc lane c.index_mut-lane.ensures.value)) c.requires.some
 
 pub pop_behind-requires-clause-together : goal.pop_behind-requires-clause-together
 pop_behind-requires-clause-together g c =
@@ -65,7 +65,7 @@ returns-then-is_empty-clause-face g c =
     let q = c.args.self.now in
     let arc = c.args.arc in
     let lane = c.index_mut-lane.result.now in
-    subst (λ (ls : List Lane). OnOk c.pop_behind.result (IsPopped (face_at (slice_get ls arc)) (face c.pop_behind.new.self arc)))
+    subst (λ (ls : List FrontLane). OnOk c.pop_behind.result (IsPopped (face_at (slice_get ls arc)) (face c.pop_behind.new.self arc)))
     (same-lanes q.lanes.items arc lane c.index_mut-lane.ensures.value) c.pop_behind.ensures.face
 
 pub returns-then-is_empty-clause-faces : goal.returns-then-is_empty-clause-faces
@@ -81,7 +81,7 @@ returns-then-is_empty-clause-items g c =
     let lane = c.index_mut-lane.result.now in
     let told = known (g.D.PageDisk.log c.args.disk.now) in
     let now = known (g.D.PageDisk.log c.pop_behind.new.disk) in
-    subst (λ (ls : List Lane). IfOk c.pop_behind.result (λ item. Tells now → front_at (slice_get ls arc) ++ pages.paged_items_on q.paged told arc ≡ item ∷ items_on c.pop_behind.new.self now arc))
+    subst (λ (ls : List FrontLane). IfOk c.pop_behind.result (λ item. Tells now → front_at (slice_get ls arc) ++ pages.paged_items_on q.paged told arc ≡ item ∷ items_on c.pop_behind.new.self now arc))
     (same-lanes q.lanes.items arc lane c.index_mut-lane.ensures.value) c.pop_behind.ensures.items
 
 pub returns-then-is_empty-clause-first : goal.returns-then-is_empty-clause-first
@@ -91,7 +91,7 @@ returns-then-is_empty-clause-first g c =
     let lane = c.index_mut-lane.result.now in
     let before = g.D.PageDisk.log c.args.disk.now in
     let after = g.D.PageDisk.log c.pop_behind.new.disk in
-    subst (λ (ls : List Lane). IfOk c.pop_behind.result (λ item. LeadsOr (front_at (slice_get ls arc)) item (pages.IsFirstPaged q.paged before after arc item)))
+    subst (λ (ls : List FrontLane). IfOk c.pop_behind.result (λ item. LeadsOr (front_at (slice_get ls arc)) item (pages.IsFirstPaged q.paged before after arc item)))
     (same-lanes q.lanes.items arc lane c.index_mut-lane.ensures.value) c.pop_behind.ensures.first
 
 pub returns-then-is_empty-clause-others : goal.returns-then-is_empty-clause-others
@@ -101,7 +101,7 @@ returns-then-is_empty-clause-others g c =
     let lane = c.index_mut-lane.result.now in
     let told = known (g.D.PageDisk.log c.args.disk.now) in
     let now = known (g.D.PageDisk.log c.pop_behind.new.disk) in
-    subst (λ (ls : List Lane). OnOk c.pop_behind.result (Tells now → (other : ℕ) → other ≢ arc → items_on c.pop_behind.new.self now other ≡ front_at (slice_get ls other) ++ pages.paged_items_on q.paged told other))
+    subst (λ (ls : List FrontLane). OnOk c.pop_behind.result (Tells now → (other : ℕ) → other ≢ arc → items_on c.pop_behind.new.self now other ≡ front_at (slice_get ls other) ++ pages.paged_items_on q.paged told other))
     (same-lanes q.lanes.items arc lane c.index_mut-lane.ensures.value) c.pop_behind.ensures.others
 
 pub take_first-requires-clause-counted : goal.take_first-requires-clause-counted
@@ -162,7 +162,7 @@ returns-clause-first g c =
     let item = c.take_first.result in
     let before = g.D.PageDisk.log c.args.disk.now in
     let was = slice_get_read q.lanes.items _ arc lane refl c.requires.there c.index_mut-lane.ensures.value in
-    subst (λ (o : Option Lane). LeadsOr (front_at o) item (pages.IsFirstPaged q.paged before before arc item)) (sym was)
+    subst (λ (o : Option FrontLane). LeadsOr (front_at o) item (pages.IsFirstPaged q.paged before before arc item)) (sym was)
     (subst (λ (front : List Item). LeadsOr front item (pages.IsFirstPaged q.paged before before arc item)) (sym c.take_first.ensures.front) refl)
 
 pub returns-clause-others : goal.returns-clause-others
@@ -199,7 +199,7 @@ returns-clause-face g c =
     let was = slice_get_read q.lanes.items _ arc lane refl c.requires.there c.index_mut-lane.ensures.value in
     let takes : Takes lane new c.take_first.result = record { front = c.take_first.ensures.front; held = c.take_first.ensures.held; less = c.take_first.ensures.less; count = c.take_first.ensures.count; behind = c.take_first.ensures.behind; ended = c.take_first.ensures.ended } in
     let popped = taken-face lane new c.take_first.result (pages.paged_face q.paged arc) (own-lane q _ arc lane c.requires.together was) (c.requires.together.paged.lanes arc).first takes in
-    subst (λ (o : Option Lane). IsPopped (face q arc) (face_at o)) (sym (get_set_same q.lanes.items arc new c.requires.there)) (subst (λ (o : Option Lane). IsPopped (face_at o) (face_at (Some new))) (sym was) popped)
+    subst (λ (o : Option FrontLane). IsPopped (face q arc) (face_at o)) (sym (get_set_same q.lanes.items arc new c.requires.there)) (subst (λ (o : Option FrontLane). IsPopped (face_at o) (face_at (Some new))) (sym was) popped)
 
 pub returns-clause-together : goal.returns-clause-together
 returns-clause-together g c =

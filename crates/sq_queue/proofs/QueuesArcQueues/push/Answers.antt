@@ -9,7 +9,7 @@ use Rattle.std.proofs.Math.ListN.{length-set}
 use Rattle.std.specs.Vec.{with_item}
 use Rattle.std.proofs.lemmas.Option.{slice_get_read}
 use Rattle.sq_paged.specs.Faces as pages
-use Rattle.sq_queue.specs.declared.Lane.{Lane}
+use Rattle.sq_queue.specs.declared.FrontLane.{FrontLane}
 use Rattle.sq_queue.specs.declared.Queues.{Queues}
 use Rattle.sq_queue.proofs.LaneLemmas.{other-face, pushed-face, face-pushed-behind, pushed-behind}
 use Rattle.sq_queue.proofs.TogetherLemmas.{written-together, written-items, other-items}
@@ -190,7 +190,7 @@ returns-clause-face g c =
     let q = c.args.self.now in
     let arc = c.args.arc in
     let lane = c.index_mut-lane.result.now in
-    let new : Lane = record lane { count = c.in-Some.count; behind = Some c.unwrap_or.result } in
+    let new : FrontLane = record lane { count = c.in-Some.count; behind = Some c.unwrap_or.result } in
     pushed-face q.lanes.items arc lane new c.args.item.now.time c.requires.there (slice_get_read q.lanes.items _ arc lane refl c.requires.there c.index_mut-lane.ensures.value)
     (face-pushed-behind lane new c.args.item.now.time refl c.in-Some.ensures.1 (ap (λ (n : ℕ). Some n) c.unwrap_or.ensures) refl)
 
@@ -226,7 +226,7 @@ returns-clause-items g c tells =
     let q = c.args.self.now in
     let arc = c.args.arc in
     let lane = c.index_mut-lane.result.now in
-    let new : Lane = record lane { count = c.in-Some.count; behind = Some c.unwrap_or.result } in
+    let new : FrontLane = record lane { count = c.in-Some.count; behind = Some c.unwrap_or.result } in
     let r : Queues = record { lanes = with_item q.lanes arc new; paged = c.push.new.self; spares = tt } in
     let more : List Item = c.args.item.now ∷ [] in
     written-items q (known (g.D.PageDisk.log c.args.disk.now)) r (known (g.D.PageDisk.log c.push.new.disk)) arc lane new more c.requires.there (slice_get_read q.lanes.items _ arc lane refl c.requires.there c.index_mut-lane.ensures.value) refl
@@ -235,7 +235,7 @@ returns-clause-items g c tells =
 pub returns-clause-others : goal.returns-clause-others
 returns-clause-others g c tells other differ =
     let q = c.args.self.now in
-    let new : Lane = record c.index_mut-lane.result.now { count = c.in-Some.count; behind = Some c.unwrap_or.result } in
+    let new : FrontLane = record c.index_mut-lane.result.now { count = c.in-Some.count; behind = Some c.unwrap_or.result } in
     let r : Queues = record { lanes = with_item q.lanes c.args.arc new; paged = c.push.new.self; spares = tt } in
     other-items q (known (g.D.PageDisk.log c.args.disk.now)) r (known (g.D.PageDisk.log c.push.new.disk)) c.args.arc other new refl differ (c.in-Ok.ensures.others tells other differ)
 
@@ -244,7 +244,7 @@ returns-clause-together g c =
     let q = c.args.self.now in
     let arc = c.args.arc in
     let lane = c.index_mut-lane.result.now in
-    let new : Lane = record lane { count = c.in-Some.count; behind = Some c.unwrap_or.result } in
+    let new : FrontLane = record lane { count = c.in-Some.count; behind = Some c.unwrap_or.result } in
     let r : Queues = record { lanes = with_item q.lanes arc new; paged = c.push.new.self; spares = tt } in
     written-together q _ r _ arc lane new c.requires.together c.in-Ok.ensures.together c.in-Ok.ensures.size c.requires.there
     (slice_get_read q.lanes.items _ arc lane refl c.requires.there c.index_mut-lane.ensures.value) refl c.in-Ok.ensures.faces

@@ -1,7 +1,8 @@
 use Rattle.std.proofs.Common.{◌≡◌, ℕ, List, Option, Some, None, sym, ap, ◌∙◌, arith}
+use Rattle.sq_words.specs.Lists.{nth}
 use Rattle.sq_pool.specs.Trust.{known}
 use Rattle.sq_pool.specs.Slots.{without_page}
-use Rattle.sq_pool.specs.Pools.{Pooled, frame_at, filled, CameBack}
+use Rattle.sq_pool.specs.Pools.{Pooled, filled, CameBack}
 use Rattle.sq_pool.proofs.PoolLemmas.{bytes-frame, held-inside, touched, out-of-frames, not-held, length-touched}
 use Rattle.sq_pool.proofs.MapLemmas.{keeps-fetched}
 use Rattle.sq_pool.proofs.CallLemmas.{keeps-touch, touches}
@@ -27,7 +28,7 @@ returns-in-Resident-clause-map g c =
 pub returns-in-Resident-clause-last : goal.returns-in-Resident-clause-last
 returns-in-Resident-clause-last g c = (
   without_page c.args.page (filled c.self.inside.frames c.self.inside.slots.order),
-  frame_at c.self.inside.frames c.in-Resident.frame,
+  nth c.self.inside.frames c.in-Resident.frame,
   rw c.touch.ensures (ap (λ (x : Pooled). x.resident) (touched c.self.inside.slots c.self.inside.frames c.args.page c.in-Resident.frame)),
 )
 

@@ -1,5 +1,5 @@
 use Rattle.std.proofs.Common.{arith}
-use Rattle.sq_pool.specs.Pools.{frame_at}
+use Rattle.sq_words.specs.Lists.{nth}
 use Rattle.sq_pool.proofs.PoolLemmas.{no-frame, opened, length-filled}
 use Rattle.sq_pool.proofs.pool.Pool.open_frame.Goals as goal
 
@@ -10,4 +10,4 @@ pub overflow_add-self : goal.overflow_add-self
 overflow_add-self c = record { fits = omega (arith, c.self.invariant.1, c.self.invariant.3, rw (← c.self.view_is) at c.requires.room, length-filled c.self.inside.frames c.self.inside.slots.order) }
 
 pub returns : goal.returns
-returns c = (frame_at c.self.inside.frames c.occupy.result, rw (c.occupy.ensures.after, ← c.self.view_is) (opened c.self.inside.slots c.self.inside.frames c.args.page c.occupy.result))
+returns c = (nth c.self.inside.frames c.occupy.result, rw (c.occupy.ensures.after, ← c.self.view_is) (opened c.self.inside.slots c.self.inside.frames c.args.page c.occupy.result))

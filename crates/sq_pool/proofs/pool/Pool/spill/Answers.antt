@@ -1,7 +1,7 @@
 use Rattle.std.proofs.Common.{sym, ap, ◌∙◌, arith}
+use Rattle.sq_words.specs.Lists.{nth}
 use Rattle.sq_pool.specs.Trust.{known, pages_with}
 use Rattle.sq_pool.specs.Slots.{without_page}
-use Rattle.sq_pool.specs.Pools.{frame_at}
 use Rattle.sha2.specs.Sha256.{sha256}
 use Rattle.sq_pool.proofs.PoolLemmas.{first-frame, first-filled, length-without_page, spilled, length-filled}
 use Rattle.sq_pool.proofs.TrustLemmas.{known-put}
@@ -25,7 +25,7 @@ pub returns-in-Ok-clause-ok : goal.returns-in-Ok-clause-ok
 returns-in-Ok-clause-ok g c =
     rw (c.release.ensures, ← c.self.view_is) (record {
       page = c.in-Some.page;
-      bytes = frame_at c.self.inside.frames c.in-Some.frame;
+      bytes = nth c.self.inside.frames c.in-Some.frame;
       oldest = first-filled c.self.inside.frames c.self.inside.slots.order (c.in-Some.page, c.in-Some.frame) (sym c.in-Some.ensures);
       inside = (c.sound.ensures.own c.in-Some.page c.in-Some.frame (first-frame c.self.inside.slots.order (c.in-Some.page, c.in-Some.frame) (sym c.in-Some.ensures)).0).1;
       pool = spilled c.self.inside.slots c.self.inside.frames (c.in-Some.page, c.in-Some.frame) c.digest_of-digest.result.0 (c.digest_of-digest.ensures ∙ ap sha256 c.frame-bytes.ensures.value);
