@@ -1,9 +1,6 @@
 //! The engine over the operators of a network, to which nothing was fed.
 
 ghost use Rattle.std.specs.Prelude.{◌≡◌, IfOk, map};
-ghost use Rattle.sq_net.specs.SoundNetworks.{IsSound};
-ghost use Rattle.sq_points.specs.Points.{points_of};
-ghost use Rattle.sq_points.specs.Limits.{KeepsDropLimits};
 ghost use Rattle.sq_core.specs.Runs.{AreReplayParts, IsNewEngine};
 
 use crate::network::network_wires;
@@ -12,9 +9,8 @@ use sq_actor::Actor;
 use sq_below::early_drop_is_sound;
 use sq_flow::Engine;
 use sq_net::Network;
-use sq_place::{DropPoint, PlaceErr};
 use sq_plan::Capacities;
-use sq_points::{network_planner, network_points};
+use sq_points::{network_planner, points_in};
 use sq_replay::Stream;
 use sq_road::Levels;
 use sq_start::{arcs_may_come, starts_as_replayed};
@@ -30,20 +26,6 @@ pub(crate) fn queued(alloc: Global, sources: Vec<Vec<Tuple>>) -> Result<Vec<Stre
         streams.push(Stream::listed(alloc, source))?;
     }
     Ok(streams)
-}
-
-/// The drop points of a network that keeps their limits.
-fn points_in(alloc: Global, n: &Network) -> Result<Vec<DropPoint>, AllocError>
-    requires sound { IsSound n.now }
-    requires limits { KeepsDropLimits n.now }
-    ensures { IfOk result (λ v. v.items ≡ points_of n.now) }
-{
-    match network_points(alloc, n) {
-        Ok(points) => Ok(points),
-        Err(PlaceErr::Memory) => Err(AllocError),
-        Err(PlaceErr::LongBatch { .. }) => unreachable!(),
-        Err(PlaceErr::WideExtent { .. }) => unreachable!(),
-    }
 }
 
 /// An engine over the boxes, window drops and outputs of a sound network, to which nothing was fed, and which has released
