@@ -48,9 +48,9 @@ pub record HasTaken (was is : DiskLog) (before queues : Queues) (arc : ℕ) (ite
 -- a feed took this item, the first of an arc that its operator reads, and did no more: the flow and the disk's log right before it and
 -- behind it
 pub record TakesOnly {O : Type 0} (before flow : Flow O) (was is : DiskLog) (arc : ℕ) (item : Item) : Type 0 where
-  pub actor : ℕ
+  pub seat : ℕ
   pub port : ℕ
-  pub reads : slice_get (arcs_read before.wires actor) port ≡ Some arc
+  pub reads : slice_get (arcs_read before.wires seat) port ≡ Some arc
   pub same : flow ≡ record before { queues = flow.queues }
   pub taken : HasTaken was is before.queues flow.queues arc item
 
@@ -72,12 +72,12 @@ IsFeedCause before flow was is error.Memory = ⊤
 
 -- the operator that reads this arc may not be fed this item
 pub record IsStrangeIn {O : Type 0} (flow : Flow O) (arc : ℕ) (item : Item) : Type 0 where
-  pub actor : ℕ
+  pub number : ℕ
   pub port : ℕ
   pub seat : Seat O
   pub at : Arc
-  pub reads : slice_get (arcs_read flow.wires actor) port ≡ Some arc
-  pub seated : slice_get flow.seats.items actor ≡ Some seat
+  pub reads : slice_get (arcs_read flow.wires number) port ≡ Some arc
+  pub seated : slice_get flow.seats.items number ≡ Some seat
   pub wired : slice_get flow.wires.arcs.items arc ≡ Some at
   pub refused : ¬ (MayBeFed at port seat.tally.place flow.clock item)
 
