@@ -40,7 +40,7 @@ use Rattle.sq_flow.specs.Engines.{AllDone}
 use Rattle.sq_flow.specs.Flows.{IsFlow, fed_on, tuples_to_come}
 use Rattle.sq_core.specs.declared.engine.Engine.{Engine}
 use Rattle.sq_core.specs.Meanings.{actors}
-use Rattle.sq_core.specs.Runs.{IsSoundEngine, IsRun, NothingLeft, ShownAll, late_in}
+use Rattle.sq_core.specs.Runs.{IsSoundEngine, IsRun, NothingLeft, ShownAll, late_in, flow_of}
 use Rattle.sq_core.proofs.RunLemmas.{shown-in, shed-in, box-in}
 use Rattle.sq_core.proofs.TableLemmas.{input-low}
 use Rattle.sq_words.proofs.Bools.{not_true}
@@ -60,9 +60,9 @@ none-left (tuples ∷ sources) none epoch =
     ∙ ap (λ k. max 0 k) (none-left sources (λ source. none (suc source)) epoch)
 
 -- where all is done nothing is to be released, so nothing is planned
-pub nothing-planned : (e : Engine) → IsSoundEngine e → AllDone e.engine.flow → plans_left e.engine.flow ≡ []
+pub nothing-planned : (e : Engine) → IsSoundEngine e → AllDone (flow_of e) → plans_left (flow_of e) ≡ []
 nothing-planned e sound done =
-    let flow = e.engine.flow in
+    let flow = flow_of e in
     let past = slice_get_past flow.seats.items (length flow.seats.items) (omega arith) in
     let none = sound.engine.flow.replay.ends (sym (ap (done_at flow.over) past) ∙ done (length flow.seats.items) (omega arith)) in
     let last = none-left flow.sources.items none flow.levels.epoch in
@@ -86,7 +86,7 @@ reads-arc : (n : Network) (at port arc : ℕ) → at < length n.boxes → slice_
 reads-arc n at port arc low is =
     ap (λ x. slice_get (reads_of n x) port) (box-at n at low) ∙ slice_get-map (arc_from n) (input_arcs_of n.wires at) port ∙ ap (option_map (arc_from n)) is
 
-pub shown-all : (e : Engine) → NothingLeft e → AllDone e.engine.flow → ((r : Replay) → IsReadReplay r → StreamsFollow r) → (r : Replay) (pages : Option Pages) (history : List Event) (begun steps : ℕ) → Tells pages
+pub shown-all : (e : Engine) → NothingLeft e → AllDone (flow_of e) → ((r : Replay) → IsReadReplay r → StreamsFollow r) → (r : Replay) (pages : Option Pages) (history : List Event) (begun steps : ℕ) → Tells pages
     → IsRun r pages e history begun steps → ShownAll r e history begun steps
 shown-all e none done follow r pages history begun steps told run =
     let a = run.answers told in
@@ -99,19 +99,19 @@ shown-all e none done follow r pages history begun steps told run =
           let first = run.sound.drops in
           let all = run.sound.operators in
           sym (append-nil (drops_of w history))
-          ∙ ap (λ l. drops_of w history ++ l) (sym (none.drops pages (batch_level r) a.holds (e.engine.flow.wires.sheds + w) (omega (arith, shed, first, all))))
+          ∙ ap (λ l. drops_of w history ++ l) (sym (none.drops pages (batch_level r) a.holds ((flow_of e).wires.sheds + w) (omega (arith, shed, first, all))))
           ∙ a.drops w p there;
       plans = sym (append-nil (plans_of history)) ∙ ap (λ l. plans_of history ++ l) (sym none.plans) ∙ run.plans.shown;
       took = λ at port arc low is.
           let boxes = boxes_count r.network run.read.sound in
           let there = input-low r.network at port arc (omega (arith, boxes, low)) is in
           let left = a.arcs at port (arc_from r.network arc) (omega (arith, low)) (reads-arc r.network at port arc low is) in
-          let all = sym (append-nil (fed_on e.engine.flow at port))
-          ∙ ap (λ l. fed_on e.engine.flow at port ++ l) (sym (none.arcs pages (batch_level r) a.holds at port left.arc (box-in e r.network run.network run.sound at low) left.there)) ∙ left.whole in
+          let all = sym (append-nil (fed_on (flow_of e) at port))
+          ∙ ap (λ l. fed_on (flow_of e) at port ++ l) (sym (none.arcs pages (batch_level r) a.holds at port left.arc (box-in e r.network run.network run.sound at low) left.there)) ∙ left.whole in
           ap tuples_in all ∙ kept-given r run.read (follow r run.read) arc there;
       fed = λ at low. sym (none.fed pages (batch_level r) a.holds at (box-in e r.network run.network run.sound at low)) ∙ a.fed at low;
       late = λ at low.
-          late-seat e.engine.flow run.sound.engine.flow done at (box-in e r.network run.network run.sound at low)
+          late-seat (flow_of e) run.sound.engine.flow done at (box-in e r.network run.network run.sound at low)
           ∙ sym (none.lost pages (batch_level r) a.holds at (box-in e r.network run.network run.sound at low)) ∙ a.late at low;
       work = (let all = none.work pages (batch_level r) a.holds in let sum = a.work in let counted = run.counted in omega (arith, all, sum, counted));
     }

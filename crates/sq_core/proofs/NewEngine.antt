@@ -72,8 +72,8 @@ use Rattle.sq_core.proofs.NetLemmas.{takes-arcs, marks-come, tuples-come, joins-
 
 -- ---- what an engine is made of
 
-pub read-parts : (r : Replay) (pages : ℕ) → AreReplayParts r.network r.sources pages → IsReadReplay r
-read-parts r pages parts = record { sound = parts.sound; streams = All-from_recursion IsStream r.sources parts.streams; fit = parts.fit }
+pub read-parts : (r : Replay) (most : ℕ) → AreReplayParts r.network r.sources most → IsReadReplay r
+read-parts r most parts = record { sound = parts.sound; streams = All-from_recursion IsStream r.sources parts.streams; fit = parts.fit }
 
 -- the places of a network's drop points are there
 pub places-of : ((r : Replay) → IsSound r.network → PointsMeasured r) → (n : Network) → IsSound n → (w : ℕ) (p : DropPoint) → slice_get (points_of n) w ≡ Some p → IsAt n p.at

@@ -33,7 +33,7 @@ use Rattle.sq_core.specs.declared.engine.Engine.{Engine}
 use Rattle.sq_core.specs.Meanings.{actors}
 use Rattle.sq_start.specs.Numbers.{first_output, ops_of}
 use Rattle.sq_core.specs.Answers.{Plans, KeepsAnswers}
-use Rattle.sq_core.specs.Runs.{IsSoundEngine, IsRun, ShownSoFar, Stopped}
+use Rattle.sq_core.specs.Runs.{IsSoundEngine, IsRun, ShownSoFar, Stopped, flow_of}
 use Rattle.sq_flow.proofs.EventLemmas.{lines-append, plans-append, drops-append}
 use Rattle.sq_flow.proofs.DoneLemmas.{sums-agree}
 
@@ -53,26 +53,26 @@ pub agrees-of : (r : Replay) (flow : Flow Actor) (history : List Event) → Plan
 agrees-of r flow history plans = subst (λ s. AgreesWith flow.levels (level_for s (counts_in r))) plans.setting plans.planned.agrees
 
 -- an output, a drop and a box is an operator
-pub shown-in : (e : Engine) (n : Network) → e.network ≡ n → IsSoundEngine e → (output : ℕ) → output < length n.wires.outputs → e.engine.flow.wires.shown + output < length e.engine.flow.seats.items
+pub shown-in : (e : Engine) (n : Network) → e.network ≡ n → IsSoundEngine e → (output : ℕ) → output < length n.wires.outputs → (flow_of e).wires.shown + output < length (flow_of e).seats.items
 shown-in e n given sound output low =
     let first = sound.drops ∙ ap first_output given in
     let all = sound.operators ∙ ap ops_of given in
     omega (arith, low, first, all)
 
-pub shed-in : (e : Engine) (n : Network) → e.network ≡ n → IsSoundEngine e → (w : ℕ) (p : DropPoint) → slice_get (points_of n) w ≡ Some p → e.engine.flow.wires.sheds + w < e.engine.flow.wires.shown
+pub shed-in : (e : Engine) (n : Network) → e.network ≡ n → IsSoundEngine e → (w : ℕ) (p : DropPoint) → slice_get (points_of n) w ≡ Some p → (flow_of e).wires.sheds + w < (flow_of e).wires.shown
 shed-in e n given sound w p there =
     let low = slice_get_within (points_of n) w p there in
     let boxes = sound.boxes ∙ ap (λ k. length k.boxes) given in
     let first = sound.drops ∙ ap first_output given in
     omega (arith, low, boxes, first)
 
-pub box-in : (e : Engine) (n : Network) → e.network ≡ n → IsSoundEngine e → (at : ℕ) → at < length n.boxes → at < length e.engine.flow.seats.items
+pub box-in : (e : Engine) (n : Network) → e.network ≡ n → IsSoundEngine e → (at : ℕ) → at < length n.boxes → at < length (flow_of e).seats.items
 box-in e n given sound at low = (let all = sound.operators ∙ ap ops_of given in omega (arith, low, all))
 
 module _ (was is : Option Pages) (e e' : Engine) (events events' : List Event) (same : e'.network ≡ e.network) where
   -- ---- a step that ended Ok
 
-  module _ (stepped : Stepped actors was is e.engine.flow e'.engine.flow events events') (engine : IsEngine actors e'.engine) where
+  module _ (stepped : Stepped actors was is (flow_of e) (flow_of e') events events') (engine : IsEngine actors e'.engine) where
     pub sound-after : IsSoundEngine e → IsSoundEngine e'
     sound-after sound =
         record {
@@ -83,35 +83,35 @@ module _ (was is : Option Pages) (e e' : Engine) (events events' : List Event) (
           engine = engine;
         }
 
-    plans-after : (r : Replay) (history : List Event) → Plans r e.engine.flow (history ++ events) → Plans r e'.engine.flow (history ++ events')
+    plans-after : (r : Replay) (history : List Event) → Plans r (flow_of e) (history ++ events) → Plans r (flow_of e') (history ++ events')
     plans-after r history plans =
         record {
           setting = stepped.planner ∙ plans.setting;
           planned = stepped.planned (counts_in r) plans.planned;
-          shown = sym (in-front plans_of plans-append history events events' (plans_left e.engine.flow) (plans_left e'.engine.flow) stepped.plans) ∙ plans.shown;
+          shown = sym (in-front plans_of plans-append history events events' (plans_left (flow_of e)) (plans_left (flow_of e')) stepped.plans) ∙ plans.shown;
         }
 
-    answers-after : (r : Replay) (history : List Event) → e.network ≡ r.network → IsSoundEngine e → Tells is → AgreesWith e'.engine.flow.levels (batch_level r)
-        → KeepsAnswers r (items_in e.engine.flow was) e.engine.flow (history ++ events) → KeepsAnswers r (items_in e'.engine.flow is) e'.engine.flow (history ++ events')
+    answers-after : (r : Replay) (history : List Event) → e.network ≡ r.network → IsSoundEngine e → Tells is → AgreesWith (flow_of e').levels (batch_level r)
+        → KeepsAnswers r (items_in (flow_of e) was) (flow_of e) (history ++ events) → KeepsAnswers r (items_in (flow_of e') is) (flow_of e') (history ++ events')
     answers-after r history given sound told agrees a =
         let goes = stepped.goes told (batch_level r) agrees a.holds in
         record {
           holds = stepped.holds told (batch_level r) agrees a.holds;
           lines = λ output low.
-              sym (in-front (lines_of output) (lines-append output) history events events' (lines_left actors (batch_level r) (items_in e.engine.flow was) e.engine.flow output) (lines_left actors (batch_level r) (items_in e'.engine.flow is) e'.engine.flow output)
+              sym (in-front (lines_of output) (lines-append output) history events events' (lines_left actors (batch_level r) (items_in (flow_of e) was) (flow_of e) output) (lines_left actors (batch_level r) (items_in (flow_of e') is) (flow_of e') output)
               (goes.lines output (shown-in e r.network given sound output low)))
               ∙ a.lines output low;
           drops = λ w p there.
               let k = ap (λ v. v.sheds) stepped.wires in
-              ap (λ z. drops_of w (history ++ events') ++ decisions_left actors (batch_level r) (items_in e'.engine.flow is) e'.engine.flow (z + w)) k
-              ∙ sym (in-front (drops_of w) (drops-append w) history events events' (decisions_left actors (batch_level r) (items_in e.engine.flow was) e.engine.flow (e.engine.flow.wires.sheds + w))
-              (decisions_left actors (batch_level r) (items_in e'.engine.flow is) e'.engine.flow (e.engine.flow.wires.sheds + w)) (goes.drops w (shed-in e r.network given sound w p there)))
+              ap (λ z. drops_of w (history ++ events') ++ decisions_left actors (batch_level r) (items_in (flow_of e') is) (flow_of e') (z + w)) k
+              ∙ sym (in-front (drops_of w) (drops-append w) history events events' (decisions_left actors (batch_level r) (items_in (flow_of e) was) (flow_of e) ((flow_of e).wires.sheds + w))
+              (decisions_left actors (batch_level r) (items_in (flow_of e') is) (flow_of e') ((flow_of e).wires.sheds + w)) (goes.drops w (shed-in e r.network given sound w p there)))
               ∙ a.drops w p there;
           fed = λ at low. sym (goes.fed at (box-in e r.network given sound at low)) ∙ a.fed at low;
           late = λ at low. sym (goes.lost at (box-in e r.network given sound at low)) ∙ a.late at low;
           work =
-              ap (sum_below (fed_at_last actors (batch_level r) (items_in e'.engine.flow is) e'.engine.flow)) stepped.seats
-              ∙ sym (sums-agree (fed_at_last actors (batch_level r) (items_in e.engine.flow was) e.engine.flow) (fed_at_last actors (batch_level r) (items_in e'.engine.flow is) e'.engine.flow) (length e.engine.flow.seats.items)
+              ap (sum_below (fed_at_last actors (batch_level r) (items_in (flow_of e') is) (flow_of e'))) stepped.seats
+              ∙ sym (sums-agree (fed_at_last actors (batch_level r) (items_in (flow_of e) was) (flow_of e)) (fed_at_last actors (batch_level r) (items_in (flow_of e') is) (flow_of e')) (length (flow_of e).seats.items)
               goes.fed)
               ∙ a.work;
           turns = (let same = goes.turns in let most = a.turns in omega (arith, same, most));
@@ -124,7 +124,7 @@ module _ (was is : Option Pages) (e e' : Engine) (events events' : List Event) (
               };
         }
 
-    pub run-after : (before after : ℕ) → CostsFed actors e.engine.flow e'.engine.flow before after
+    pub run-after : (before after : ℕ) → CostsFed actors (flow_of e) (flow_of e') before after
         → (r : Replay) (history : List Event) (begun : ℕ) → IsRun r was e (history ++ events) begun before → IsRun r is e' (history ++ events') begun after
     run-after before after cost r history begun run =
         let plans = plans-after r history run.plans in
@@ -135,7 +135,7 @@ module _ (was is : Option Pages) (e e' : Engine) (events events' : List Event) (
           together = stepped.together;
           counted = (let counted = run.counted in omega (arith, counted, cost));
           plans = plans;
-          answers = λ told. answers-after r history run.network run.sound told (agrees-of r e'.engine.flow (history ++ events') plans) (run.answers (stepped.tells told));
+          answers = λ told. answers-after r history run.network run.sound told (agrees-of r (flow_of e') (history ++ events') plans) (run.answers (stepped.tells told));
         }
 
     -- what a step shows is shown at outputs of the network, or decided by its drops, or planned
@@ -145,30 +145,30 @@ module _ (was is : Option Pages) (e e' : Engine) (events events' : List Event) (
         let first = sound.drops in
         let all = sound.operators in
         let outputs = sound.network.agrees.outputs in
-        let many : length e.engine.flow.seats.items - e.engine.flow.wires.shown ≡ length e.network.outputs = omega (arith, first, all, outputs) in
-        let drops : e.engine.flow.wires.shown - e.engine.flow.wires.sheds ≡ drops_in e.network = omega (arith, first, boxes) in
+        let many : length (flow_of e).seats.items - (flow_of e).wires.shown ≡ length e.network.outputs = omega (arith, first, all, outputs) in
+        let drops : (flow_of e).wires.shown - (flow_of e).wires.sheds ≡ drops_in e.network = omega (arith, first, boxes) in
         subst (λ k. AllByRecursion (IsEventIn k (drops_in e.network)) events → AllByRecursion (IsEventIn k (drops_in e.network)) events') many
-        (subst (λ k. AllByRecursion (IsEventIn (length e.engine.flow.seats.items - e.engine.flow.wires.shown) k) events → AllByRecursion (IsEventIn (length e.engine.flow.seats.items - e.engine.flow.wires.shown) k) events') drops stepped.shows)
+        (subst (λ k. AllByRecursion (IsEventIn (length (flow_of e).seats.items - (flow_of e).wires.shown) k) events → AllByRecursion (IsEventIn (length (flow_of e).seats.items - (flow_of e).wires.shown) k) events') drops stepped.shows)
 
   -- ---- a step that failed
 
-  pub stopped-after : (honest : Bool) → (Tells is → Tells was) → (before after : ℕ) (err : RunErr) → ShowsPrefix actors was is e.engine.flow e'.engine.flow.levels events events' → PlansPrefix e.engine.flow e'.engine.flow.levels events events'
-      → StepCosts actors was is e.engine.flow e'.engine.flow.levels before after → NoneStrange actors honest was is e.engine.flow e'.engine.flow.levels err → TooMuchOnly actors was is e.engine.flow e'.engine.flow err
+  pub stopped-after : (honest : Bool) → (Tells is → Tells was) → (before after : ℕ) (err : RunErr) → ShowsPrefix actors was is (flow_of e) (flow_of e').levels events events' → PlansPrefix (flow_of e) (flow_of e').levels events events'
+      → StepCosts actors was is (flow_of e) (flow_of e').levels before after → NoneStrange actors honest was is (flow_of e) (flow_of e').levels err → TooMuchOnly actors was is (flow_of e) (flow_of e') err
       → Tells is → (r : Replay) (history : List Event) (begun : ℕ) → IsRun r was e (history ++ events) begun before → Stopped honest r (history ++ events') begun after err
   stopped-after honest tells before after err prefix planned cost strange much told r history begun run =
       let a = run.answers (tells told) in
-      let agrees : AgreesWith e'.engine.flow.levels (batch_level r) = subst (λ s. AgreesWith e'.engine.flow.levels (level_for s (counts_in r))) run.plans.setting (planned.agrees (counts_in r) run.plans.planned) in
+      let agrees : AgreesWith (flow_of e').levels (batch_level r) = subst (λ s. AgreesWith (flow_of e').levels (level_for s (counts_in r))) run.plans.setting (planned.agrees (counts_in r) run.plans.planned) in
       let begins = prefix told (batch_level r) agrees a.holds in
       record {
         so_far = record {
           lines = λ output low.
               subst (IsPrefixOf (lines_of output (history ++ events'))) (a.lines output low)
-              (prefix-in-front (lines_of output) (lines-append output) history events events' (lines_left actors (batch_level r) (items_in e.engine.flow was) e.engine.flow output) (begins.lines output (shown-in e r.network run.network run.sound output low)));
+              (prefix-in-front (lines_of output) (lines-append output) history events events' (lines_left actors (batch_level r) (items_in (flow_of e) was) (flow_of e) output) (begins.lines output (shown-in e r.network run.network run.sound output low)));
           drops = λ w p there.
               subst (IsPrefixOf (drops_of w (history ++ events'))) (a.drops w p there)
-              (prefix-in-front (drops_of w) (drops-append w) history events events' (decisions_left actors (batch_level r) (items_in e.engine.flow was) e.engine.flow (e.engine.flow.wires.sheds + w))
+              (prefix-in-front (drops_of w) (drops-append w) history events events' (decisions_left actors (batch_level r) (items_in (flow_of e) was) (flow_of e) ((flow_of e).wires.sheds + w))
               (begins.drops w (shed-in e r.network run.network run.sound w p there)));
-          plans = subst (IsPrefixOf (plans_of (history ++ events'))) run.plans.shown (prefix-in-front plans_of plans-append history events events' (plans_left e.engine.flow) planned.shown);
+          plans = subst (IsPrefixOf (plans_of (history ++ events'))) run.plans.shown (prefix-in-front plans_of plans-append history events events' (plans_left (flow_of e)) planned.shown);
           work = (let most = cost told (batch_level r) agrees a.holds in let all = a.work in let counted = run.counted in omega (arith, most, all, counted));
         };
         named = strange told (batch_level r) agrees a.holds;
@@ -186,11 +186,11 @@ pub shown-so-far : (e : Engine) (r : Replay) (pages : Option Pages) (history : L
 shown-so-far e r pages history begun steps told run =
     let a = run.answers told in
     record {
-      lines = λ output low. (lines_left actors (batch_level r) (items_in e.engine.flow pages) e.engine.flow output, sym (a.lines output low));
-      drops = λ w p there. (decisions_left actors (batch_level r) (items_in e.engine.flow pages) e.engine.flow (e.engine.flow.wires.sheds + w), sym (a.drops w p there));
-      plans = (plans_left e.engine.flow, sym run.plans.shown);
+      lines = λ output low. (lines_left actors (batch_level r) (items_in (flow_of e) pages) (flow_of e) output, sym (a.lines output low));
+      drops = λ w p there. (decisions_left actors (batch_level r) (items_in (flow_of e) pages) (flow_of e) ((flow_of e).wires.sheds + w), sym (a.drops w p there));
+      plans = (plans_left (flow_of e), sym run.plans.shown);
       work =
-          let less = sum-less (λ actor. taken_at actors (slice_get e.engine.flow.seats.items actor)) (fed_at_last actors (batch_level r) (items_in e.engine.flow pages) e.engine.flow) (length e.engine.flow.seats.items) (λ i. omega arith) in
+          let less = sum-less (λ actor. taken_at actors (slice_get (flow_of e).seats.items actor)) (fed_at_last actors (batch_level r) (items_in (flow_of e) pages) (flow_of e)) (length (flow_of e).seats.items) (λ i. omega arith) in
           let all = a.work in
           let counted = run.counted in
           omega (arith, less, all, counted);

@@ -73,8 +73,8 @@ pub record IsRun (r : Replay) (pages : Option Pages) (engine : Engine) (history 
   pub answers : Tells pages → KeepsAnswers r (items_in (flow_of engine) pages) (flow_of engine) history
 
 -- what an engine is made of: a sound network within its limits, for each source a stream of no more than a million tuples that fits it,
--- and two pages at least that may be in memory
-pub record AreReplayParts (n : Network) (sources : List (List Tuple)) (pages : ℕ) : Type 0 where
+-- and two frames at least
+pub record AreReplayParts (n : Network) (sources : List (List Tuple)) (most : ℕ) : Type 0 where
   pub sound : IsSound n
   pub limits : KeepsDropLimits n
   pub lists : length sources ≡ length n.sources
@@ -82,9 +82,9 @@ pub record AreReplayParts (n : Network) (sources : List (List Tuple)) (pages : �
   pub tuples : AllByRecursion (AllByRecursion IsSoundTuple) sources
   pub few : AllByRecursion (λ xs. length xs ≤ 1000000) sources
   pub fit : SourcesFit n sources
-  pub frames : 2 ≤ pages
+  pub frames : 2 ≤ most
 
--- an engine that has released nothing of a replay yet, whose queues keep so many pages in memory at most: its replay alone is ready
+-- an engine that has released nothing of a replay yet, whose queues have so many frames: its replay alone is ready
 pub record IsNewEngine (r : Replay) (most : ℕ) (e : Engine) : Type 0 where
   pub sound : IsSoundEngine e
   pub run : (pages : Option Pages) (steps : ℕ) → IsRun r pages e [] steps steps
@@ -99,8 +99,8 @@ pub record IsState (e : Engine) (s : State) : Type 0 where
   pub failed : s ≡ Failed → has_failed e ≡ true
   pub when_failed : has_failed e ≡ true → s ≡ Failed
 
--- it has ended where it is done or has failed, and only there
-pub record EndsWhereDone (e : Engine) (ended : Bool) : Type 0 where
+-- an engine has ended where it is done or has failed, and only there
+pub record SaysWhetherEnded (e : Engine) (ended : Bool) : Type 0 where
   pub runs : ended ≡ false → (0 < length (ready_of e)) × (has_failed e ≡ false)
   pub done : has_failed e ≡ false → ended ≡ true → AllDone (flow_of e)
   pub when_done : AllDone (flow_of e) → ended ≡ true
@@ -124,11 +124,12 @@ pub record Stopped (honest : Bool) (r : Replay) (history : List Event) (begun st
 abbrev pub tuples_fed : Engine → ℕ → ℕ → List Tuple
 tuples_fed engine at port = tuples_in (fed_on (flow_of engine) at port)
 
--- wherever an engine holds its items, this holds at the table of levels and of the items that stand on its arcs
+-- this holds of the items that stand on the arcs, by whatever pages the disk has, at each table of levels at which they are what the run has come to
 abbrev pub WhereHeld : Engine → ((ℕ → ℕ → ℕ) → (ℕ → List Item) → Type 0) → Type 0
 WhereHeld e P = (pages : Option Pages) (table : ℕ → ℕ → ℕ) → HoldsItems actors table (items_in (flow_of e) pages) (flow_of e) → P table (items_in (flow_of e) pages)
 
--- nothing is pending at any output, drop or arc, nor any plan, and each operator was fed, and has lost, all that it is fed and loses in all
+-- nothing is to come any more: no tuple at an output, no batch of a drop, no mark or tuple on an arc and no plan; and each operator was fed,
+-- and has lost, as many tuples as it will have been fed and have lost at the end
 pub record NothingLeft (e : Engine) : Type 0 where
   pub lines : WhereHeld e (λ table items. (output : ℕ) → (flow_of e).wires.shown + output < length (flow_of e).seats.items
       → lines_left actors table items (flow_of e) output ≡ [])

@@ -43,12 +43,12 @@ impl Drop for Engine {
 impl Engine {
     ghost use Rattle.sq_flow.specs.Engines.{AllDone};
     ghost use Rattle.sq_flow.specs.Stepping.{Remains, stage};
-    ghost use Rattle.sq_core.specs.Runs.{AreReplayParts, EndsWhereDone, IsNewEngine, IsRun, IsSoundEngine, IsState, NothingLeft, ShownAll, ShownSoFar};
+    ghost use Rattle.sq_core.specs.Runs.{AreReplayParts, IsNewEngine, IsRun, IsSoundEngine, IsState, NothingLeft, SaysWhetherEnded, ShownAll, ShownSoFar};
     ghost use Rattle.sq_core.specs.Runs.{fed_at, flow_of, has_failed, late_at_seat, ready_of};
     ghost use Rattle.sq_core.specs.Steps.{RunFails, RunsOn};
 
     /// An engine that has released nothing yet of what the sources recorded, one list for each source. `seed` is that of the
-    /// draws; `frames` is how many pages the queues may keep in memory.
+    /// draws; `frames` is how many frames the queues have.
     pub fn new(
         alloc: Global,
         network: Network,
@@ -122,7 +122,7 @@ impl Engine {
     /// Whether no step may follow: all actors are finished, or a step failed.
     pub fn ended(&self) -> bool
         requires { has_failed self.now ≡ false → IsSoundEngine self.now }
-        ensures { EndsWhereDone self.now result }
+        ensures { SaysWhetherEnded self.now result }
     {
         match self.state() {
             State::Running => false,

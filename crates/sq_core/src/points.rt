@@ -12,6 +12,7 @@ ghost use Rattle.sq_points.specs.Above.{first_drop, drop_on_arc};
 
 use sq_net::Network;
 use sq_place::{DropAt, DropPoint};
+use sq_points::above_arc;
 
 /// Whether a drop stands on an arc of this stream.
 #[tactic(auto, using(crate::proofs::PointLemmas::owns_stream, crate::proofs::PointLemmas::owns_arc))]
@@ -44,20 +45,9 @@ pub(crate) fn drop_on(n: &Network, points: &[DropPoint], stream: u32, arc: u32) 
     None
 }
 
-fn reaches(point: &DropPoint, arc: u32) -> bool
-    ensures { result ≡ list_any (λ d. d.0 == arc) point.now.reach }
-{
-    point.reach.as_slice().iter().any(|d| d.0 == arc)
-}
-
 /// Whether an arc lies below one of these drops.
 pub(crate) fn is_below(points: &[DropPoint], arc: u32) -> bool
     ensures { result ≡ is_some (first_drop (λ p. list_any (λ d. d.0 == arc) p.reach) 0 points.now) }
 {
-    for point in points {
-        if reaches(point, arc) {
-            return true;
-        }
-    }
-    false
+    above_arc(points, arc).is_some()
 }

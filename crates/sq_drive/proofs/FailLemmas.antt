@@ -8,6 +8,7 @@ use Rattle.sq_flow.specs.declared.errors.RunErr.{RunErr}
 use Rattle.sq_flow.specs.Flows.{FailsAt, Stepped}
 use Rattle.sq_core.specs.declared.engine.Engine.{Engine}
 use Rattle.sq_core.specs.Meanings.{actors}
+use Rattle.sq_core.specs.Runs.{flow_of}
 use Rattle.sq_status.specs.declared.Status.{Status}
 use Rattle.sq_drive.specs.Stopping.{status_of}
 use Rattle.sq_drive.specs.Failing.{CameTo}
@@ -15,17 +16,17 @@ use Rattle.sq_drive.proofs.LeftLemmas.{stepped_then}
 
 -- by one step, of an engine that showed nothing before it
 pub came_at_once : (was is : DiskLog) (from to : Engine) (cleared : List Event) → cleared ≡ [] → (e : RunErr) → to.network ≡ from.network
-    → FailsAt actors was is from.engine.flow to.engine.flow cleared e → CameTo was is from (status_of e) to
+    → FailsAt actors was is (flow_of from) (flow_of to) cleared e → CameTo was is from (status_of e) to
 came_at_once was is from to cleared none e same fails = record {
   network = same;
   error = e;
   named = refl;
-  fails = subst (λ xs. FailsAt actors was is from.engine.flow to.engine.flow xs e) none fails;
+  fails = subst (λ xs. FailsAt actors was is (flow_of from) (flow_of to) xs e) none fails;
 }
 
 -- it fails after it went on
 pub came_then : (was mid is : DiskLog) (from via to : Engine) (s : Status) → IsLater was mid → (shown : List Event)
-    → Stepped actors (known was) (known mid) from.engine.flow via.engine.flow [] shown → via.network ≡ from.network → CameTo mid is via s to → CameTo was is from s to
+    → Stepped actors (known was) (known mid) (flow_of from) (flow_of via) [] shown → via.network ≡ from.network → CameTo mid is via s to → CameTo was is from s to
 came_then was mid is from via to s later shown went same came =
     let f = came.fails in
     record {
@@ -36,7 +37,7 @@ came_then was mid is from via to s later shown went same came =
         before = f.before;
         mid = f.mid;
         shown = shown ++ f.shown;
-        stepped = stepped_then (known was) (known mid) from.engine.flow via.engine.flow shown went (known f.mid) f.before f.shown f.stepped;
+        stepped = stepped_then (known was) (known mid) (flow_of from) (flow_of via) shown went (known f.mid) f.before f.shown f.stepped;
         later = IsLater-trans was mid f.mid later f.later;
         last = f.last;
         feed = f.feed;

@@ -19,7 +19,7 @@ use Rattle.sq_flow.proofs.EventLemmas.{drops-append, lines-append, plans-append}
 use Rattle.sq_flow.proofs.StepLemmas.{stepped-both}
 use Rattle.sq_core.specs.declared.engine.Engine.{Engine}
 use Rattle.sq_core.specs.Meanings.{actors}
-use Rattle.sq_core.specs.Runs.{IsSoundEngine}
+use Rattle.sq_core.specs.Runs.{IsSoundEngine, flow_of}
 use Rattle.sq_core.proofs.RunLemmas.{shed-in, shown-in}
 use Rattle.sq_drive.specs.Driving.{IsRestOf, WritesFirst}
 use Rattle.sq_due.specs.Histories.{IsEventAt, history_text}
@@ -65,20 +65,20 @@ stepped_then was mid from via shown first is to events second =
     stepped-both actors was mid from via [] shown first is to (shown ++ events) (stepped_behind mid is via to shown events second)
 
 module _ (was is : Option Pages) (from : Engine) (sound : IsSoundEngine from) where
-  output_in : (o : ℕ) → o < length from.network.outputs → from.engine.flow.wires.shown + o < length from.engine.flow.seats.items
+  output_in : (o : ℕ) → o < length from.network.outputs → (flow_of from).wires.shown + o < length (flow_of from).seats.items
   output_in o low = shown-in from from.network refl sound o (omega (arith, low, sound.network.agrees.outputs))
 
-  dropper_in : (w : ℕ) → w < drops_in from.network → from.engine.flow.wires.sheds + w < from.engine.flow.wires.shown
+  dropper_in : (w : ℕ) → w < drops_in from.network → (flow_of from).wires.sheds + w < (flow_of from).wires.shown
   dropper_in w low = let p = has_item (points_of from.network) w low in shed-in from from.network refl sound w p.0 p.1
 
-  module _ (to : Engine) (events : List Event) (left : Stepped actors was is from.engine.flow to.engine.flow [] events) where
-    output_after : (o : ℕ) → o < length from.network.outputs → to.engine.flow.wires.shown + o < length to.engine.flow.seats.items
+  module _ (to : Engine) (events : List Event) (left : Stepped actors was is (flow_of from) (flow_of to) [] events) where
+    output_after : (o : ℕ) → o < length from.network.outputs → (flow_of to).wires.shown + o < length (flow_of to).seats.items
     output_after o low =
         let here = output_in o low in
         let wires = ap (λ (v : Wires). v.shown) left.wires in
         let seats = left.seats in omega (arith, here, wires, seats)
 
-    dropper_after : (w : ℕ) → w < drops_in from.network → from.engine.flow.wires.sheds + w < length to.engine.flow.seats.items
+    dropper_after : (w : ℕ) → w < drops_in from.network → (flow_of from).wires.sheds + w < length (flow_of to).seats.items
     dropper_after w low =
         let here = dropper_in w low in
         let shown = sound.drops in
@@ -86,11 +86,11 @@ module _ (was is : Option Pages) (from : Engine) (sound : IsSoundEngine from) wh
         let seats = left.seats in omega (arith, here, shown, all, seats)
 
     -- nothing is left of the engine: all was shown
-    pub rest_shown : plans_left to.engine.flow ≡ []
-        → ((pages : Option Pages) (table : ℕ → ℕ → ℕ) → HoldsItems actors table (items_in to.engine.flow pages) to.engine.flow
-        → (output : ℕ) → to.engine.flow.wires.shown + output < length to.engine.flow.seats.items → lines_left actors table (items_in to.engine.flow pages) to.engine.flow output ≡ [])
-        → ((pages : Option Pages) (table : ℕ → ℕ → ℕ) → HoldsItems actors table (items_in to.engine.flow pages) to.engine.flow
-        → (actor : ℕ) → actor < length to.engine.flow.seats.items → decisions_left actors table (items_in to.engine.flow pages) to.engine.flow actor ≡ [])
+    pub rest_shown : plans_left (flow_of to) ≡ []
+        → ((pages : Option Pages) (table : ℕ → ℕ → ℕ) → HoldsItems actors table (items_in (flow_of to) pages) (flow_of to)
+        → (output : ℕ) → (flow_of to).wires.shown + output < length (flow_of to).seats.items → lines_left actors table (items_in (flow_of to) pages) (flow_of to) output ≡ [])
+        → ((pages : Option Pages) (table : ℕ → ℕ → ℕ) → HoldsItems actors table (items_in (flow_of to) pages) (flow_of to)
+        → (actor : ℕ) → actor < length (flow_of to).seats.items → decisions_left actors table (items_in (flow_of to) pages) (flow_of to) actor ≡ [])
         → IsRestOf was is from to events
     rest_shown no_plans no_lines no_drops = record {
       plans = sym (left.plans ∙ ap (λ l. plans_of events ++ l) no_plans ∙ append-nil (plans_of events));
@@ -99,18 +99,18 @@ module _ (was is : Option Pages) (from : Engine) (sound : IsSoundEngine from) wh
           ∙ ap (λ l. lines_of o events ++ l) (no_lines is table (left.holds told table agrees holds) o (output_after o low)) ∙ append-nil (lines_of o events));
       drops = λ told table agrees holds w low.
           sym ((left.goes told table agrees holds).drops w (dropper_in w low)
-          ∙ ap (λ l. drops_of w events ++ l) (no_drops is table (left.holds told table agrees holds) (from.engine.flow.wires.sheds + w) (dropper_after w low))
+          ∙ ap (λ l. drops_of w events ++ l) (no_drops is table (left.holds told table agrees holds) ((flow_of from).wires.sheds + w) (dropper_after w low))
           ∙ append-nil (drops_of w events));
     }
 
   -- steps that lead to what was known before: the first was shown, and a beginning of its text was written
-  module _ (mid : Option Pages) (tells : Tells is → Tells mid) (to : Engine) (events : List Event) (left : Stepped actors was mid from.engine.flow to.engine.flow [] events) where
+  module _ (mid : Option Pages) (tells : Tells is → Tells mid) (to : Engine) (events : List Event) (left : Stepped actors was mid (flow_of from) (flow_of to) [] events) where
     pub first_shown : (before now : Option (List ℕ)) → AllByRecursion (IsEventAt from.network) events → AppendsPrefix before now (history_text from.network events)
         → WritesFirst was is from before now
     first_shown before now there written =
-        let last = to.engine.flow in
-        let table = λ (all : ℕ → List ℕ). level_for from.engine.flow.planner all in
-        let agrees = λ (all : ℕ → List ℕ) (planned : IsPlanned all from.engine.flow).
+        let last = flow_of to in
+        let table = λ (all : ℕ → List ℕ). level_for (flow_of from).planner all in
+        let agrees = λ (all : ℕ → List ℕ) (planned : IsPlanned all (flow_of from)).
         subst (λ (s : Setting). AgreesWith last.levels (level_for s all)) left.planner (left.planned all planned).agrees in
         record {
           events = events;
@@ -122,7 +122,7 @@ module _ (was is : Option Pages) (from : Engine) (sound : IsSoundEngine from) wh
             (left.goes (tells told) (table all) (agrees all planned) holds).lines o (output_in o low),
           );
           drops = λ told all planned holds w low. (
-            decisions_left actors (table all) (items_in last mid) last (from.engine.flow.wires.sheds + w),
+            decisions_left actors (table all) (items_in last mid) last ((flow_of from).wires.sheds + w),
             (left.goes (tells told) (table all) (agrees all planned) holds).drops w (dropper_in w low),
           );
         }

@@ -3,6 +3,7 @@ use Rattle.sq_actor.specs.declared.actor.Actor.{Actor}
 use Rattle.std.proofs.Common.{Bool, ap, arith, false, inl, inr, refl, subst, suc, sym, true, zero, ℕ, ◌≡◌, ◌≤◌, ◌∙◌, ◌<◌}
 use Rattle.sq_outside.specs.Disks.{DiskLog}
 use Rattle.sq_core.specs.declared.engine.Engine.{Engine}
+use Rattle.sq_core.specs.Runs.{flow_of, has_failed}
 use Rattle.sq_drive.specs.Stopping.{FailedIn, StopHasCause, status_of}
 use Rattle.sq_flow.specs.Readiness.{FallsBy}
 use Rattle.sq_flow.specs.declared.flow.Flow.{Flow}
@@ -22,7 +23,7 @@ use Rattle.sq_bring.specs.declared.bring.QueueErr.TheVariants as queue
 use Rattle.sq_status.specs.declared.Status.TheVariants as status
 
 failed_map : (P Q : Engine → Type 0) (X Y : Flow Actor → Type 0) → ((e : Engine) → P e → Q e) → ((flow : Flow Actor) → X flow → Y flow) → FailedIn P X → FailedIn Q Y
-failed_map P Q X Y of shows f = record { engine = f.engine; of_run = of f.engine f.of_run; failed = f.failed; shows = shows f.engine.engine.flow f.shows }
+failed_map P Q X Y of shows f = record { engine = f.engine; of_run = of f.engine f.of_run; failed = f.failed; shows = shows (flow_of f.engine) f.shows }
 
 -- what shows why an engine stopped shows it of a longer call, and of any run of which the engine is
 pub stop_map : (P Q : Engine → Type 0) (was is was' is' : DiskLog) (before now before' now' : ℕ) (s : Status) → (Rose before now → Rose before' now')
@@ -36,7 +37,7 @@ stop_map P Q was is was' is' before now before' now' status.TooMuch rose back of
 stop_map P Q was is was' is' before now before' now' s rose back of h = tt
 
 -- why a step failed
-pub step_cause : (P : Engine → Type 0) (to : Engine) (was is : DiskLog) (before now : ℕ) (e : RunErr) → P to → to.engine.failed ≡ true → IsCauseIn to.engine.flow was is before now e
+pub step_cause : (P : Engine → Type 0) (to : Engine) (was is : DiskLog) (before now : ℕ) (e : RunErr) → P to → has_failed to ≡ true → IsCauseIn (flow_of to) was is before now e
     → StopHasCause P was is before now (status_of e)
 step_cause P to was is before now run_err.Disk of failed cause = cause
 step_cause P to was is before now (run_err.Garbled page kept got) of failed cause =

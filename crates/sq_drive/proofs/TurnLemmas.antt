@@ -15,7 +15,7 @@ use Rattle.sq_flow.specs.Stepping.{Stage}
 use Rattle.sq_flow.proofs.CauseLemmas.{page-since}
 use Rattle.sq_flow.proofs.StepLemmas.{stepped-none}
 use Rattle.sq_core.specs.Meanings.{actors}
-use Rattle.sq_core.specs.Runs.{IsRun}
+use Rattle.sq_core.specs.Runs.{IsRun, flow_of}
 use Rattle.sq_core.specs.Steps.{RunFails, RunsOn}
 use Rattle.sq_core.proofs.RunLemmas.{shown-so-far}
 use Rattle.sq_status.specs.declared.Status.{Status}
@@ -36,7 +36,7 @@ use Rattle.sq_words.proofs.Alls.{all_append}
 
 -- a moment of a run, as a step knows it that has shown these events
 abbrev pub stage_at : RunState → List Event → Stage Actor
-stage_at a events = record { flow = a.engine.engine.flow; log = a.log; faults = a.faults; events = events; steps = a.steps }
+stage_at a events = record { flow = flow_of a.engine; log = a.log; faults = a.faults; events = events; steps = a.steps }
 
 pub keeps_none : (a : RunState) → KeepsRun a a
 keeps_none a = record { network = refl; later = IsLater-refl a.log; faults = omega arith }
@@ -52,7 +52,7 @@ keeps_then a b c first second = record {
 pub goes_none : (a : RunState) → IsDrivable (known a.log) a.engine → GoesOn a.engine.network a a []
 goes_none a can = record {
   there = tt;
-  left = stepped-none actors (known a.log) a.engine.engine.flow [] can.sound.engine.flow can.together;
+  left = stepped-none actors (known a.log) (flow_of a.engine) [] can.sound.engine.flow can.together;
   runs = λ r history begun run. subst (λ xs. IsRun r (known a.log) a.engine xs begun a.steps) (sym (append-nil history)) run;
   sound = can.sound;
 }
@@ -62,7 +62,7 @@ module _ (n : Network) (a b : RunState) (events : List Event) (first : GoesOn n 
   pub goes_then : (c : RunState) (more : List Event) → GoesOn n b c more → GoesOn n a c (events ++ more)
   goes_then c more second = record {
     there = all_append (IsEventAt n) events more first.there second.there;
-    left = stepped_then (known a.log) (known b.log) a.engine.engine.flow b.engine.engine.flow events first.left (known c.log) c.engine.engine.flow more second.left;
+    left = stepped_then (known a.log) (known b.log) (flow_of a.engine) (flow_of b.engine) events first.left (known c.log) (flow_of c.engine) more second.left;
     runs = λ r history begun run.
         subst (λ xs. IsRun r (known c.log) c.engine xs begun c.steps) (append_assoc history events more)
         (second.runs r (history ++ events) begun (first.runs r history begun run));
@@ -76,7 +76,7 @@ module _ (n : Network) (a b : RunState) (events : List Event) (first : GoesOn n 
     tells = second.tells;
     last = second.last;
     there = all_append (IsEventAt n) events more first.there second.there;
-    left = stepped_then (known a.log) (known b.log) a.engine.engine.flow b.engine.engine.flow events first.left second.mid second.last.engine.flow more second.left;
+    left = stepped_then (known a.log) (known b.log) (flow_of a.engine) (flow_of b.engine) events first.left second.mid (flow_of second.last) more second.left;
     stops = λ told r history begun run.
         subst (λ xs. StoppedWith a.log.honest r xs begun c.steps s) (append_assoc history events more)
         (subst (λ h. StoppedWith h r ((history ++ events) ++ more) begun c.steps s) keeps.later.honest
@@ -114,7 +114,7 @@ module _ (a b : RunState) (cleared shown : List Event) (none : cleared ≡ []) w
   pub goes_here : (pick : Pick) (p : Progress) → RunsOn pick (stage_at a cleared) (stage_at b shown) a.engine b.engine p → GoesOn a.engine.network a b shown
   goes_here pick p on = record {
     there = on.shows (subst (AllByRecursion (IsEventAt a.engine.network)) (sym none) tt);
-    left = subst (λ xs. Stepped actors (known a.log) (known b.log) a.engine.engine.flow b.engine.engine.flow xs shown) none on.step.train.moves.stepped;
+    left = subst (λ xs. Stepped actors (known a.log) (known b.log) (flow_of a.engine) (flow_of b.engine) xs shown) none on.step.train.moves.stepped;
     runs = λ r history begun run. on.run r history begun (run_here r history begun run);
     sound = on.sound;
   }

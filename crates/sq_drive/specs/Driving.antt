@@ -17,7 +17,7 @@ use Rattle.sq_flow.specs.Flows.{HoldsItems, decisions_left, items_in, lines_left
 use Rattle.sq_flow.specs.Plans.{IsPlanned, plans_left, plans_of}
 use Rattle.sq_core.specs.declared.engine.Engine.{Engine}
 use Rattle.sq_core.specs.Meanings.{actors}
-use Rattle.sq_core.specs.Runs.{IsSoundEngine, fed_at, late_at_seat}
+use Rattle.sq_core.specs.Runs.{IsSoundEngine, fed_at, late_at_seat, flow_of}
 use Rattle.sq_status.specs.declared.Status.{Status}
 use Rattle.sq_status.specs.declared.Status.TheVariants as status
 use Rattle.sq_points.specs.Points.{drops_in}
@@ -78,17 +78,17 @@ pub record HasEnded (was is : Option Pages) (from to : Engine) : Type 0 where
   pub went : WentOn was is from to
   pub network : to.network ≡ from.network
   pub sound : IsSoundEngine to
-  pub done : AllDone to.engine.flow
+  pub done : AllDone (flow_of to)
 
 -- these events show exactly what was pending of an engine that came to its end. Its plans over every disk; where the disk is known, at every
 -- table of levels that agrees with those of the closed epochs, the lines of each output and the decisions of each drop
 pub record IsRestOf (was is : Option Pages) (from to : Engine) (events : List Event) : Type 0 where
-  pub plans : plans_of events ≡ plans_left from.engine.flow
-  pub lines : Tells is → (table : ℕ → ℕ → ℕ) → AgreesWith to.engine.flow.levels table → HoldsItems actors table (items_in from.engine.flow was) from.engine.flow
-      → (o : ℕ) → o < length from.network.outputs → lines_of o events ≡ lines_left actors table (items_in from.engine.flow was) from.engine.flow o
-  pub drops : Tells is → (table : ℕ → ℕ → ℕ) → AgreesWith to.engine.flow.levels table → HoldsItems actors table (items_in from.engine.flow was) from.engine.flow
+  pub plans : plans_of events ≡ plans_left (flow_of from)
+  pub lines : Tells is → (table : ℕ → ℕ → ℕ) → AgreesWith (flow_of to).levels table → HoldsItems actors table (items_in (flow_of from) was) (flow_of from)
+      → (o : ℕ) → o < length from.network.outputs → lines_of o events ≡ lines_left actors table (items_in (flow_of from) was) (flow_of from) o
+  pub drops : Tells is → (table : ℕ → ℕ → ℕ) → AgreesWith (flow_of to).levels table → HoldsItems actors table (items_in (flow_of from) was) (flow_of from)
       → (w : ℕ) → w < drops_in from.network
-      → drops_of w events ≡ decisions_left actors table (items_in from.engine.flow was) from.engine.flow (from.engine.flow.wires.sheds + w)
+      → drops_of w events ≡ decisions_left actors table (items_in (flow_of from) was) (flow_of from) ((flow_of from).wires.sheds + w)
 
 -- and their text was written
 pub record WritesRest (was is : Option Pages) (from to : Engine) (before now : Option (List ℕ)) : Type 0 where
@@ -103,10 +103,10 @@ pub record WritesFirst (was is : Option Pages) (from : Engine) (before now : Opt
   pub events : List Event
   pub shown : AllByRecursion (IsEventAt from.network) events
   pub written : AppendsPrefix before now (history_text from.network events)
-  pub plans : IsPrefixOf (plans_of events) (plans_left from.engine.flow)
-  pub lines : Tells is → (all : ℕ → List ℕ) → IsPlanned all from.engine.flow
-      → HoldsItems actors (level_for from.engine.flow.planner all) (items_in from.engine.flow was) from.engine.flow → (o : ℕ) → o < length from.network.outputs
-      → IsPrefixOf (lines_of o events) (lines_left actors (level_for from.engine.flow.planner all) (items_in from.engine.flow was) from.engine.flow o)
-  pub drops : Tells is → (all : ℕ → List ℕ) → IsPlanned all from.engine.flow
-      → HoldsItems actors (level_for from.engine.flow.planner all) (items_in from.engine.flow was) from.engine.flow → (w : ℕ) → w < drops_in from.network
-      → IsPrefixOf (drops_of w events) (decisions_left actors (level_for from.engine.flow.planner all) (items_in from.engine.flow was) from.engine.flow (from.engine.flow.wires.sheds + w))
+  pub plans : IsPrefixOf (plans_of events) (plans_left (flow_of from))
+  pub lines : Tells is → (all : ℕ → List ℕ) → IsPlanned all (flow_of from)
+      → HoldsItems actors (level_for (flow_of from).planner all) (items_in (flow_of from) was) (flow_of from) → (o : ℕ) → o < length from.network.outputs
+      → IsPrefixOf (lines_of o events) (lines_left actors (level_for (flow_of from).planner all) (items_in (flow_of from) was) (flow_of from) o)
+  pub drops : Tells is → (all : ℕ → List ℕ) → IsPlanned all (flow_of from)
+      → HoldsItems actors (level_for (flow_of from).planner all) (items_in (flow_of from) was) (flow_of from) → (w : ℕ) → w < drops_in from.network
+      → IsPrefixOf (drops_of w events) (decisions_left actors (level_for (flow_of from).planner all) (items_in (flow_of from) was) (flow_of from) ((flow_of from).wires.sheds + w))

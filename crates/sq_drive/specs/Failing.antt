@@ -11,7 +11,7 @@ use Rattle.sq_flow.specs.declared.errors.RunErr.{RunErr}
 use Rattle.sq_flow.specs.Flows.{FailsAt, Stepped}
 use Rattle.sq_core.specs.declared.engine.Engine.{Engine}
 use Rattle.sq_core.specs.Meanings.{actors}
-use Rattle.sq_core.specs.Runs.{IsRun, tuples_fed}
+use Rattle.sq_core.specs.Runs.{IsRun, tuples_fed, flow_of}
 use Rattle.sq_status.specs.declared.Status.{Status}
 use Rattle.sq_work.specs.Scripts.{AcceptedReplay}
 use Rattle.sq_due.specs.Due.{replayed}
@@ -20,7 +20,7 @@ use Rattle.sq_drive.specs.Stopping.{status_of}
 -- from one engine, by steps that ended well, it came to another
 pub record WentOn (was is : Option Pages) (from to : Engine) : Type 0 where
   pub shown : List Event
-  pub stepped : Stepped actors was is from.engine.flow to.engine.flow [] shown
+  pub stepped : Stepped actors was is (flow_of from) (flow_of to) [] shown
 
 -- each box was fed, at each port, exactly the tuples that are still needed of the arc there
 abbrev pub TookNeeded : Replay → Engine → Type 0
@@ -34,12 +34,12 @@ pub record CameTo (was is : DiskLog) (from : Engine) (s : Status) (to : Engine) 
   pub network : to.network ≡ from.network
   pub error : RunErr
   pub named : status_of error ≡ s
-  pub fails : FailsAt actors was is from.engine.flow to.engine.flow [] error
+  pub fails : FailsAt actors was is (flow_of from) (flow_of to) [] error
 
 -- a new engine of what was accepted: one that was fed nothing and has shown nothing, with as many frames as are named
 pub record IsNewOf (r : AcceptedReplay) (engine : Engine) : Type 0 where
   pub run : (pages : Option Pages) (steps : ℕ) → IsRun (replayed r) pages engine [] steps steps
-  pub framed : frames engine.engine.flow.queues ≡ r.frames
+  pub framed : frames (flow_of engine).queues ≡ r.frames
 
 -- between these logs of the disk the engine came to fail, with the error of this status, from a new engine of what was accepted
 pub record IsOfRun (was is : DiskLog) (r : AcceptedReplay) (s : Status) (engine : Engine) : Type 0 where

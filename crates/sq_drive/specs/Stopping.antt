@@ -9,6 +9,7 @@ use Rattle.sq_flow.specs.declared.errors.RunErr.{RunErr}
 use Rattle.sq_flow.specs.declared.errors.RunErr.TheVariants as error
 use Rattle.sq_flow.specs.Causes.{IsPageRefused, IsStrangeIn}
 use Rattle.sq_core.specs.declared.engine.Engine.{Engine}
+use Rattle.sq_core.specs.Runs.{flow_of, has_failed}
 use Rattle.sq_status.specs.declared.Status.{Status}
 use Rattle.sq_status.specs.declared.Status.TheVariants as status
 
@@ -25,8 +26,8 @@ status_of error.Memory = status.Memory
 pub record FailedIn (IsOfRun : Engine → Type 0) (Shows : Flow Actor → Type 0) : Type 0 where
   pub engine : Engine
   pub of_run : IsOfRun engine
-  pub failed : engine.engine.failed ≡ true
-  pub shows : Shows engine.engine.flow
+  pub failed : has_failed engine ≡ true
+  pub shows : Shows (flow_of engine)
 
 -- over every disk, by its log and its faults before a run and now: the disk is at fault only where its count rose. Else an engine of the
 -- run failed: a page is garbled only where the two digests differ, and bytes are no page only where they came back to its queues in the run

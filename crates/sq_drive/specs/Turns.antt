@@ -17,7 +17,7 @@ use Rattle.sq_flow.specs.Engines.{AllDone}
 use Rattle.sq_flow.specs.Flows.{Stepped}
 use Rattle.sq_core.specs.declared.engine.Engine.{Engine}
 use Rattle.sq_core.specs.Meanings.{actors}
-use Rattle.sq_core.specs.Runs.{IsRun, IsSoundEngine, ShownAll}
+use Rattle.sq_core.specs.Runs.{IsRun, IsSoundEngine, ShownAll, flow_of}
 use Rattle.sq_status.specs.declared.Status.{Status}
 use Rattle.sq_due.specs.declared.audience.Audience.{Ghosts}
 use Rattle.sq_due.specs.declared.counting.Counts.{Counts}
@@ -51,7 +51,7 @@ moment tells engine disk steps audience out = record { run = run_state tells eng
 -- an engine can be driven: it is sound, and its queues go with what is known of the pages
 pub record IsDrivable (pages : Option Pages) (engine : Engine) : Type 0 where
   pub sound : IsSoundEngine engine
-  pub together : Together engine.engine.flow.queues pages
+  pub together : Together (flow_of engine).queues pages
 
 -- so it can, before an audience that may be shown its events
 pub record CanTurn {A O : Type 0} (m : Ghosts A O) (a : Moment A O) : Type 0 where
@@ -67,7 +67,7 @@ pub record KeepsRun (before after : RunState) : Type 0 where
 -- steps that ended Ok: what was shown, and then what is pending, stays the same, of any run that it is
 pub record GoesOn (n : Network) (before after : RunState) (events : List Event) : Type 0 where
   pub there : AllByRecursion (IsEventAt n) events
-  pub left : Stepped actors (known before.log) (known after.log) before.engine.engine.flow after.engine.engine.flow [] events
+  pub left : Stepped actors (known before.log) (known after.log) (flow_of before.engine) (flow_of after.engine) [] events
   pub runs : (r : Replay) (history : List Event) (begun : ℕ)
       → IsRun r (known before.log) before.engine history begun before.steps → IsRun r (known after.log) after.engine (history ++ events) begun after.steps
   pub sound : IsSoundEngine after.engine
@@ -75,7 +75,7 @@ pub record GoesOn (n : Network) (before after : RunState) (events : List Event) 
 -- they lead on to the end of the run: these events show exactly what was pending, and make the history of any run the whole answer
 pub record EndsOn (before after : RunState) (events : List Event) : Type 0 where
   pub on : GoesOn before.engine.network before after events
-  pub done : AllDone after.engine.engine.flow
+  pub done : AllDone (flow_of after.engine)
   pub rest : IsRestOf (known before.log) (known after.log) before.engine after.engine events
   pub all : Tells (known after.log) → (r : Replay) (history : List Event) (begun : ℕ)
       → IsRun r (known before.log) before.engine history begun before.steps → ShownAll r after.engine (history ++ events) begun after.steps
@@ -87,7 +87,7 @@ pub record FailsOn (n : Network) (before after : RunState) (events : List Event)
   pub tells : Tells (known after.log) → Tells mid
   pub last : Engine
   pub there : AllByRecursion (IsEventAt n) events
-  pub left : Stepped actors (known before.log) mid before.engine.engine.flow last.engine.flow [] events
+  pub left : Stepped actors (known before.log) mid (flow_of before.engine) (flow_of last) [] events
   pub stops : Tells (known after.log) → (r : Replay) (history : List Event) (begun : ℕ)
       → IsRun r (known before.log) before.engine history begun before.steps → StoppedWith before.log.honest r (history ++ events) begun after.steps result
   pub cause : StopHasCause (CameTo before.log after.log before.engine result) before.log after.log before.faults after.faults result

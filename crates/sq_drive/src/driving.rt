@@ -5,6 +5,7 @@ ghost use Rattle.sq_flow.specs.Flows.{measure_of};
 ghost use Rattle.sq_due.specs.States.{disk_state, sink_state, unseen};
 ghost use Rattle.sq_drive.specs.Stopping.{status_of};
 ghost use Rattle.sq_drive.specs.Turns.{CanTurn, CountEnds, DriveEnds, DriveFails, IsDrivable, KeepsRun, RunsOut, TurnFails, TurnsOn, moment, run_state};
+ghost use Rattle.sq_core.specs.Runs.{flow_of, ready_of};
 
 use sq_core::{Engine, RunErr};
 use sq_due::{Audience, Counts, LineWriter, no_counts};
@@ -40,9 +41,9 @@ fn step_once<D: PageDisk, O, A: Audience<O>, L: Ledger>(
     steps: &mut Steps<L>,
 ) -> Result<(), Status>
     requires ready { CanTurn A.Audience (moment D.PageDisk engine.old disk.old steps.old audience.old out.old) }
-    requires runs { 0 < length engine.old.engine.ready.list }
+    requires runs { 0 < length (ready_of engine.old) }
     ensures keeps { KeepsRun (run_state D.PageDisk engine.old disk.old steps.old) (run_state D.PageDisk engine.new disk.new steps.new) }
-    ensures falls { OnOk result (measure_of engine.new.engine.flow < measure_of engine.old.engine.flow) }
+    ensures falls { OnOk result (measure_of (flow_of engine.new) < measure_of (flow_of engine.old)) }
     ensures ok { OnOk result (TurnsOn A.Audience engine.old.network
         (moment D.PageDisk engine.old disk.old steps.old audience.old out.old) (moment D.PageDisk engine.new disk.new steps.new audience.new out.new)) }
     ensures err { IfErr result (TurnFails A.Audience engine.old.network

@@ -120,21 +120,21 @@ pub refused-in : {O : Type 0} (flow : Flow O) (actor port arc : ℕ) (s : Seat O
     → IsQueueCause flow.queues was is before now e ⊎ ((item : Item) × (e ≡ error.Strange arc item) × T item × ¬ (MayBeFed at port s.tally.place flow.clock item)) → IsCauseIn flow was is before now e
 refused-in flow actor port arc s at was is before now e T reads seated wired (inl h) = cause-in flow was is before now e h
 refused-in flow actor port arc s at was is before now e T reads seated wired (inr (item, same, taken, refused)) =
-    subst (IsCauseIn flow was is before now) (sym same) (record { actor = actor; port = port; seat = s; at = at; reads = reads; seated = seated; wired = wired; refused = refused })
+    subst (IsCauseIn flow was is before now) (sym same) (record { number = actor; port = port; seat = s; at = at; reads = reads; seated = seated; wired = wired; refused = refused })
 
 pub refused-feed : {O : Type 0} (flow flow' : Flow O) (actor port arc : ℕ) (log log' : DiskLog) (was is : DiskLog) (before now : ℕ) (e : RunErr) (N : Item → Type 0)
     → slice_get (arcs_read flow.wires actor) port ≡ Some arc → flow' ≡ record flow { queues = flow'.queues }
     → IsQueueCause flow'.queues was is before now e ⊎ ((item : Item) × (e ≡ error.Strange arc item) × HasTaken log log' flow.queues flow'.queues arc item × N item) → IsFeedCause flow flow' log log' e
 refused-feed flow flow' actor port arc log log' was is before now e N reads same (inl h) = feeds-none flow flow' log log' flow'.queues was is before now e h
 refused-feed flow flow' actor port arc log log' was is before now e N reads same (inr (item, is-strange, taken, refused)) =
-    subst (IsFeedCause flow flow' log log') (sym is-strange) (record { actor = actor; port = port; reads = reads; same = same; taken = taken })
+    subst (IsFeedCause flow flow' log log') (sym is-strange) (record { seat = actor; port = port; reads = reads; same = same; taken = taken })
 
 pub full-feed : {O : Type 0} (flow flow' : Flow O) (actor port arc : ℕ) (item : Item) (log log' : DiskLog) (e : RunErr)
     → slice_get (arcs_read flow.wires actor) port ≡ Some arc → flow' ≡ record flow { queues = flow'.queues } → HasTaken log log' flow.queues flow'.queues arc item
     → e ≡ error.TooMuch → 2 ^ 62 ≤ flow.taken + length (spread item) → IsFeedCause flow flow' log log' e
 full-feed flow flow' actor port arc item log log' e reads same taken is over =
     subst (IsFeedCause flow flow' log log') (sym is)
-    (record { arc = arc; item = item; takes = record { actor = actor; port = port; reads = reads; same = same; taken = taken }; over = over })
+    (record { arc = arc; item = item; takes = record { seat = actor; port = port; reads = reads; same = same; taken = taken }; over = over })
 
 pub too-much-in : {O : Type 0} (flow : Flow O) (was is : DiskLog) (before now : ℕ) (e : RunErr) → e ≡ error.TooMuch → IsCauseIn flow was is before now e
 too-much-in flow was is before now e same = subst (IsCauseIn flow was is before now) (sym same) tt

@@ -53,8 +53,8 @@ module _ {D : Type 0} (log : D → DiskLog) (faults : D → ℕ) where
   pub came-first : (s : QueueOutlet D) → IsOpen log s → s.given ≡ unfed → s.noted.drops ≡ [] → Came log faults s s
   came-first s opened given drops =
       record {
-        holds = record { queues = refl; disk = refl; events = refl; failed = refl; wires = refl; actor = refl };
-        shown = rw (given, drops) (shown-first s.wires.now s.actor s.events.now.items);
+        holds = record { queues = refl; disk = refl; events = refl; failed = refl; wires = refl; seat = refl };
+        shown = rw (given, drops) (shown-first s.wires.now s.seat s.events.now.items);
         sent = λ whole. rw given (pushes-none s.queues.now (known (log s.disk.now)) _ _ _ (opened.passes 0).together (λ arc. refl));
         fails = none-told s.failed.now _ (opened.passes 0).whole;
         grows = grows-none (log s.disk.now) (faults s.disk.now);
@@ -80,18 +80,18 @@ module _ {D : Type 0} (log : D → DiskLog) (faults : D → ℕ) where
 
   -- what went on, where the outlet was opened
   pub went-on : (start s : QueueOutlet D) → Came log faults start s → s.failed.now ≡ None
-      → Pushes start.queues.now s.queues.now (known (log start.disk.now)) (known (log s.disk.now)) (sent_to start.wires.now start.actor s.given.items) (λ time. AllOutsFine time s.given.items)
-      (is_sent_by start.wires.now start.actor)
+      → Pushes start.queues.now s.queues.now (known (log start.disk.now)) (known (log s.disk.now)) (sent_to start.wires.now start.seat s.given.items) (λ time. AllOutsFine time s.given.items)
+      (is_sent_by start.wires.now start.seat)
   went-on start s came whole =
       subst₂ (λ (wires : Bor Wires) (actor : ℕ).
       Pushes start.queues.now s.queues.now (known (log start.disk.now)) (known (log s.disk.now)) (sent_to wires.now actor s.given.items) (λ time. AllOutsFine time s.given.items) (is_sent_by wires.now actor))
-      came.holds.wires came.holds.actor (came.sent whole)
+      came.holds.wires came.holds.seat (came.sent whole)
 
   pub was-shown : (start s : QueueOutlet D) → Came log faults start s → (events : List Event) → events ≡ s.events.now.items
-      → IsShown start.wires.now start.actor s.given.items s.noted.drops start.events.now.items events
+      → IsShown start.wires.now start.seat s.given.items s.noted.drops start.events.now.items events
   was-shown start s came events same =
       rw same
-      (subst₂ (λ (wires : Bor Wires) (actor : ℕ). IsShown wires.now actor s.given.items s.noted.drops start.events.now.items s.events.now.items) came.holds.wires came.holds.actor came.shown)
+      (subst₂ (λ (wires : Bor Wires) (actor : ℕ). IsShown wires.now actor s.given.items s.noted.drops start.events.now.items s.events.now.items) came.holds.wires came.holds.seat came.shown)
 
   -- what an outlet became that was opened
   pub came-open : (start s : QueueOutlet D) → IsOpen log s → s.given ≡ unfed → s.noted.drops ≡ []
@@ -102,13 +102,13 @@ module _ {D : Type 0} (log : D → DiskLog) (faults : D → ℕ) where
   module _ {O : Type 0} (m : Ghosts O) (seat seat' : Seat O) (start s : QueueOutlet D) (came : Came log faults start s)
       (q : Queues) (d : D) (events : List Event) (same_queues : q ≡ s.queues.now) (same_disk : d ≡ s.disk.now) (same_events : events ≡ s.events.now.items) (whole : s.failed.now ≡ None) where
     pub feeds-into : (levels : LevelTable) (port : ℕ) (item : Item) → FedSeat m levels port item s.given.items s.noted.drops seat seat'
-        → FeedsInto m levels port item start.wires.now start.actor seat seat' start.queues.now q (known (log start.disk.now)) (known (log d)) start.events.now.items events
+        → FeedsInto m levels port item start.wires.now start.seat seat seat' start.queues.now q (known (log start.disk.now)) (known (log d)) start.events.now.items events
     feeds-into levels port item fed =
         rw (same_queues, same_disk)
         (record { items = s.given.items; drops = s.noted.drops; fed = fed; onward = record { sent = went-on start s came whole; shown = was-shown start s came events same_events } })
 
     pub ends-into : FinishedSeat m s.given.items s.noted.drops seat seat'
-        → EndsInto m start.wires.now start.actor seat seat' start.queues.now q (known (log start.disk.now)) (known (log d)) start.events.now.items events
+        → EndsInto m start.wires.now start.seat seat seat' start.queues.now q (known (log start.disk.now)) (known (log d)) start.events.now.items events
     ends-into finished =
         rw (same_queues, same_disk)
         (record { items = s.given.items; drops = s.noted.drops; finished = finished; onward = record { sent = went-on start s came whole; shown = was-shown start s came events same_events } })
@@ -122,26 +122,26 @@ module _ {D : Type 0} (log : D → DiskLog) (faults : D → ℕ) where
 
     pub holds-same : (failed : Option RunErr) (given' : FedItems) → HoldsSame start (behind failed given')
     holds-same failed given' =
-        record { queues = came.holds.queues; disk = came.holds.disk; events = came.holds.events; failed = came.holds.failed; wires = came.holds.wires; actor = came.holds.actor }
+        record { queues = came.holds.queues; disk = came.holds.disk; events = came.holds.events; failed = came.holds.failed; wires = came.holds.wires; seat = came.holds.seat }
 
     grown : LogGrows (log start.disk.now) (log d) (faults start.disk.now) (faults d)
     grown = grows-both _ _ _ _ _ _ came.grows grew
 
     -- one item more went on
     pub came-item : (failed : Option RunErr) (given' : FedItems) (port : ℕ) (item : Item) → given'.items ≡ s.given.items ++ (port, item) ∷ []
-        → SentWhole (arcs_from s.wires.now s.actor port) item s.queues.now q (known (log s.disk.now)) (known (log d)) failed
-        → IsShown s.wires.now s.actor ((port, item) ∷ []) [] s.events.now.items events.items
+        → SentWhole (arcs_from s.wires.now s.seat port) item s.queues.now q (known (log s.disk.now)) (known (log d)) failed
+        → IsShown s.wires.now s.seat ((port, item) ∷ []) [] s.events.now.items events.items
         → Came log faults start (behind failed given')
     came-item failed given' port item items did shown =
         record {
           holds = holds-same failed given';
-          shown = rw items (shown-item s.wires.now s.actor s.given.items s.noted.drops (port, item) start.events.now.items s.events.now.items events.items came.shown shown);
+          shown = rw items (shown-item s.wires.now s.seat s.given.items s.noted.drops (port, item) start.events.now.items s.events.now.items events.items came.shown shown);
           sent = λ whole.
               rw items
               (pushes-both _ _ _ _ _ _ _ _ _ _ _ _ _ _ _ (came.sent (opened.passes 0).whole) did.sent
               (λ time fine. fine-first time s.given.items (port, item) fine)
-              (λ arc. sent-append s.wires.now s.actor s.given.items (port, item) arc)
-              (λ arc away. (away, apart-arcs s.wires.now s.actor port arc (opened.joined port arc) away)));
+              (λ arc. sent-append s.wires.now s.seat s.given.items (port, item) arc)
+              (λ arc away. (away, apart-arcs s.wires.now s.seat port arc (opened.joined port arc) away)));
           fails = none-told failed _ did.whole;
           grows = grown;
         }
@@ -155,7 +155,7 @@ module _ {D : Type 0} (log : D → DiskLog) (faults : D → ℕ) where
           shown = rw same came.shown;
           sent = λ whole.
               pushes-both _ _ _ _ _ _ _ _ _ _ _ _ _ _ _ (came.sent (opened.passes 0).whole) (err.unsent whole) (λ time fine. (fine, tt))
-              (λ arc. sym (append-nil (sent_to s.wires.now s.actor s.given.items arc))) (λ arc away. (away, refl));
+              (λ arc. sym (append-nil (sent_to s.wires.now s.seat s.given.items arc))) (λ arc away. (away, refl));
           fails = fault-told failed _ (fails-since _ _ _ _ _ _ _ _ came.grows err.fails);
           grows = grown;
         }
@@ -166,8 +166,8 @@ module _ {D : Type 0} (log : D → DiskLog) (faults : D → ℕ) where
       → Came log faults start (record s { events = record s.events { now = events }; noted = noted })
   came-drop start s came events noted d drops same =
       record {
-        holds = record { queues = came.holds.queues; disk = came.holds.disk; events = came.holds.events; failed = came.holds.failed; wires = came.holds.wires; actor = came.holds.actor };
-        shown = rw drops (shown-drop s.wires.now s.actor s.given.items s.noted.drops d start.events.now.items s.events.now.items events.items came.shown same);
+        holds = record { queues = came.holds.queues; disk = came.holds.disk; events = came.holds.events; failed = came.holds.failed; wires = came.holds.wires; seat = came.holds.seat };
+        shown = rw drops (shown-drop s.wires.now s.seat s.given.items s.noted.drops d start.events.now.items s.events.now.items events.items came.shown same);
         sent = came.sent;
         fails = came.fails;
         grows = came.grows;
@@ -178,7 +178,7 @@ module _ {D : Type 0} (log : D → DiskLog) (faults : D → ℕ) where
       → Came log faults start (record s { events = record s.events { now = events } })
   came-same start s came events same =
       record {
-        holds = record { queues = came.holds.queues; disk = came.holds.disk; events = came.holds.events; failed = came.holds.failed; wires = came.holds.wires; actor = came.holds.actor };
+        holds = record { queues = came.holds.queues; disk = came.holds.disk; events = came.holds.events; failed = came.holds.failed; wires = came.holds.wires; seat = came.holds.seat };
         shown = rw same came.shown;
         sent = came.sent;
         fails = came.fails;

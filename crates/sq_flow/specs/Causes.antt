@@ -48,9 +48,9 @@ pub record HasTaken (was is : DiskLog) (before queues : Queues) (arc : ℕ) (ite
 -- a feed took this item, the first of an arc that its operator reads, and did no more: the flow and the disk's log right before it and
 -- behind it
 pub record TakesOnly {O : Type 0} (before flow : Flow O) (was is : DiskLog) (arc : ℕ) (item : Item) : Type 0 where
-  pub actor : ℕ
+  pub seat : ℕ
   pub port : ℕ
-  pub reads : slice_get (arcs_read before.wires actor) port ≡ Some arc
+  pub reads : slice_get (arcs_read before.wires seat) port ≡ Some arc
   pub same : flow ≡ record before { queues = flow.queues }
   pub taken : HasTaken was is before.queues flow.queues arc item
 
@@ -72,12 +72,12 @@ IsFeedCause before flow was is error.Memory = ⊤
 
 -- the operator that reads this arc may not be fed this item
 pub record IsStrangeIn {O : Type 0} (flow : Flow O) (arc : ℕ) (item : Item) : Type 0 where
-  pub actor : ℕ
+  pub number : ℕ
   pub port : ℕ
   pub seat : Seat O
   pub at : Arc
-  pub reads : slice_get (arcs_read flow.wires actor) port ≡ Some arc
-  pub seated : slice_get flow.seats.items actor ≡ Some seat
+  pub reads : slice_get (arcs_read flow.wires number) port ≡ Some arc
+  pub seated : slice_get flow.seats.items number ≡ Some seat
   pub wired : slice_get flow.wires.arcs.items arc ≡ Some at
   pub refused : ¬ (MayBeFed at port seat.tally.place flow.clock item)
 
@@ -106,12 +106,13 @@ pub record MayTake (queues : Queues) (was : Option Pages) (arc : ℕ) : Type 0 w
   pub some : is_some (face queues arc).first ≡ true
   pub together : Together queues was
 
--- one arc alone was touched
+-- the other arcs are as they were: as many items, the same one first, ended or not
 pub record TouchesArc (arc : ℕ) (before after : Queues) : Type 0 where
   pub faces : (other : ℕ) → other ≢ arc → face after other ≡ face before other
   pub size : size after ≡ size before
 
--- an item was taken from an arc, and it may be fed; the other arcs have what they had
+-- the first item of an arc was taken, and it may be fed at a port of an operator that stands at this place; the other arcs have the items that they
+-- had, no arc has ended by it, and there are as many frames
 pub record TakesItem (was is : DiskLog) (before queues : Queues) (at : Arc) (arc port : ℕ) (place : Position) (clock : ℕ) (item : Item) : Type 0 where
   pub sound : IsSoundItem item
   pub may_be_fed : MayBeFed at port place clock item
@@ -121,8 +122,8 @@ pub record TakesItem (was is : DiskLog) (before queues : Queues) (at : Arc) (arc
   pub together : Together queues (known is)
   pub framed : frames queues ≡ frames before
 
--- none was taken that may be fed: the call over the queues failed, or the item may not be fed. Where the disk is known behind it, and the
--- item that stands first may be fed, no disk that is known brings about another error
+-- no item was taken that may be fed: the disk had a fault, a page came back changed, memory ran out, or the item that came may not be fed at the port.
+-- Where the pages of the disk are known, and the item that stood first may be fed, a changed page is named as garbled, and over an honest disk none is
 pub record TakesNone (was is : DiskLog) (faults faults' : ℕ) (before queues : Queues) (at : Arc) (arc port : ℕ) (place : Position) (clock : ℕ) (e : RunErr) : Type 0 where
   pub cause : IsQueueCause queues was is faults faults' e
       ⊎ ((item : Item) × (e ≡ error.Strange arc item) × HasTaken was is before queues arc item × ¬ (MayBeFed at port place clock item))

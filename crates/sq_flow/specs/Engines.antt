@@ -1,4 +1,7 @@
 -- An engine: a flow whose ready actors are listed.
+-- An actor is named by two numbers. By its seat the flow's wires, drops and outputs count: the first operator sits at 0, the replay behind
+-- the last. By its number it is picked, listed and counted for: the replay is actor 0, the operator at seat k is actor k + 1. So who
+-- picks knows the replay without knowing how many operators there are, and it comes first where actors are listed in ascending number.
 use Rattle.std.specs.Prelude.{◌≡◌, ℕ, ◌+◌, ◌-◌, ◌≤◌, ◌==◌, ◌&&◌, Bool, true, false, not, List, [], ◌∷◌, ◌++◌, map, length, slice_get, slice_index}
 use Rattle.std.specs.Prelude.{if◌then◌else◌}
 use Rattle.std.specs.List.{filter, range_with_len}
@@ -12,7 +15,7 @@ use Rattle.sq_flow.specs.Flows.{IsFlow}
 use Rattle.sq_flow.specs.Readiness.{IsReady, is_ready, waiting}
 use Rattle.sq_words.specs.Lists.{contains_number}
 
--- an actor's place in the flow: the replay, which is actor 0, stands behind the operators
+-- the seat of an actor: the replay, which is actor 0, sits behind so many operators
 abbrev pub seat_number : ℕ → ℕ → ℕ
 seat_number ops actor = if actor == 0 then ops else actor - 1
 
@@ -34,9 +37,9 @@ abbrev pub listed_after : {O : Type 0} → Flow O → List ℕ → ℕ → List 
 listed_after flow before actor =
     without_actor actor before ++ (if is_ready flow (seat_number (length flow.seats.items) actor) then actor ∷ [] else []) ++ newly_ready flow before
 
--- the actors that read from the one at a place
+-- the actors that read from the one at a seat
 abbrev pub readers_of : {O : Type 0} → Flow O → ℕ → List ℕ
-readers_of flow place = map (λ operator. operator + 1) (followers_of flow.wires place)
+readers_of flow seat = map (λ follower. follower + 1) (followers_of flow.wires seat)
 
 -- what a look at some actors does: those that are ready and weren't listed are listed last, in their order, and how many items
 -- wait for each is counted; nothing else changes
@@ -71,4 +74,4 @@ pub record IsEngine {O : Type 0} (m : Ghosts O) (engine : Engine O) : Type 0 whe
 
 -- all actors are finished
 abbrev pub AllDone : {O : Type 0} → Flow O → Type 0
-AllDone flow = (actor : ℕ) → actor ≤ length flow.seats.items → done_at flow.over (slice_get flow.seats.items actor) ≡ true
+AllDone flow = (seat : ℕ) → seat ≤ length flow.seats.items → done_at flow.over (slice_get flow.seats.items seat) ≡ true

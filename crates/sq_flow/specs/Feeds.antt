@@ -27,22 +27,22 @@ pub record MayFeed {O : Type 0} (m : Ghosts O) (levels : LevelTable) (port : ℕ
   pub has_level : item.time / levels.epoch < levels.closed
   pub has_room : (m.taken seat.op < 2 ^ 62 - 1) × (seat.tally.taken < 2 ^ 62 - 1)
 
--- what an actor gave, these items and these batches, went into the queues, or was shown
-pub record PassedOn (wires : Wires) (actor : ℕ) (items : List (ℕ × Item)) (drops : List Decision) (queues queues' : Queues) (was is : Option Pages)
+-- what the actor at the seat of a number gave, these items and these batches, went into the queues, or was shown
+pub record PassedOn (wires : Wires) (number : ℕ) (items : List (ℕ × Item)) (drops : List Decision) (queues queues' : Queues) (was is : Option Pages)
     (events events' : List Event) : Type 0 where
-  pub sent : Pushes queues queues' was is (sent_to wires actor items) (λ time. AllOutsFine time items) (is_sent_by wires actor)
-  pub shown : IsShown wires actor items drops events events'
+  pub sent : Pushes queues queues' was is (sent_to wires number items) (λ time. AllOutsFine time items) (is_sent_by wires number)
+  pub shown : IsShown wires number items drops events events'
 
 -- a feed: what the operator gave went onward
-pub record FeedsInto {O : Type 0} (m : Ghosts O) (levels : LevelTable) (port : ℕ) (item : Item) (wires : Wires) (actor : ℕ)
+pub record FeedsInto {O : Type 0} (m : Ghosts O) (levels : LevelTable) (port : ℕ) (item : Item) (wires : Wires) (number : ℕ)
     (seat seat' : Seat O) (queues queues' : Queues) (was is : Option Pages) (events events' : List Event) : Type 0 where
   pub items : List (ℕ × Item)
   pub drops : List Decision
   pub fed : FedSeat m levels port item items drops seat seat'
-  pub onward : PassedOn wires actor items drops queues queues' was is events events'
+  pub onward : PassedOn wires number items drops queues queues' was is events events'
 
 -- a feed that failed: what it gave before is the beginning of what the operator will give
-pub record FeedsPart {O : Type 0} (m : Ghosts O) (levels : LevelTable) (port : ℕ) (item : Item) (wires : Wires) (actor : ℕ) (seat : Seat O)
+pub record FeedsPart {O : Type 0} (m : Ghosts O) (levels : LevelTable) (port : ℕ) (item : Item) (wires : Wires) (number : ℕ) (seat : Seat O)
     (events events' : List Event) : Type 0 where
   pub items : List (ℕ × Item)
   pub drops : List Decision
@@ -50,19 +50,19 @@ pub record FeedsPart {O : Type 0} (m : Ghosts O) (levels : LevelTable) (port : �
       → (q : ℕ) → IsPrefixOf (given q items) (m.rest seat.op table (entries port item ++ future) q)
   pub decided : (table : ℕ → ℕ → ℕ) (future : List Entry) → AgreesWith levels table → IsFutureOf m seat.op (entries port item ++ future)
       → IsPrefixOf drops (m.decides seat.op table (entries port item ++ future))
-  pub shown : IsShown wires actor items drops events events'
+  pub shown : IsShown wires number items drops events events'
 
 -- the end of an operator, likewise
-pub record EndsInto {O : Type 0} (m : Ghosts O) (wires : Wires) (actor : ℕ)
+pub record EndsInto {O : Type 0} (m : Ghosts O) (wires : Wires) (number : ℕ)
     (seat seat' : Seat O) (queues queues' : Queues) (was is : Option Pages) (events events' : List Event) : Type 0 where
   pub items : List (ℕ × Item)
   pub drops : List Decision
   pub finished : FinishedSeat m items drops seat seat'
-  pub onward : PassedOn wires actor items drops queues queues' was is events events'
+  pub onward : PassedOn wires number items drops queues queues' was is events events'
 
-pub record EndsPart {O : Type 0} (m : Ghosts O) (wires : Wires) (actor : ℕ) (seat : Seat O) (events events' : List Event) : Type 0 where
+pub record EndsPart {O : Type 0} (m : Ghosts O) (wires : Wires) (number : ℕ) (seat : Seat O) (events events' : List Event) : Type 0 where
   pub items : List (ℕ × Item)
   pub drops : List Decision
   pub law : (table : ℕ → ℕ → ℕ) (q : ℕ) → IsPrefixOf (given q items) (m.rest seat.op table [] q)
   pub decided : (table : ℕ → ℕ → ℕ) → IsPrefixOf drops (m.decides seat.op table [])
-  pub shown : IsShown wires actor items drops events events'
+  pub shown : IsShown wires number items drops events events'

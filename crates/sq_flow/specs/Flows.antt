@@ -42,12 +42,12 @@ to_release flow source = tuples_to_come (slice_get flow.sources.items source)
 abbrev pub world_of : {O : Type 0} → Ghosts O → (ℕ → ℕ → ℕ) → (ℕ → List Item) → Flow O → Holding
 world_of m table items flow =
     record {
-      rest = λ actor. rest_at m table (slice_get flow.seats.items actor);
-      decide = λ actor. decides_at m table (slice_get flow.seats.items actor);
-      lost = λ actor. lost_at m (slice_get flow.seats.items actor);
-      taken = λ actor. taken_at m (slice_get flow.seats.items actor);
-      place = λ actor. position_at m (slice_get flow.seats.items actor);
-      done = λ actor. done_at flow.over (slice_get flow.seats.items actor);
+      rest = λ seat. rest_at m table (slice_get flow.seats.items seat);
+      decide = λ seat. decides_at m table (slice_get flow.seats.items seat);
+      lost = λ seat. lost_at m (slice_get flow.seats.items seat);
+      taken = λ seat. taken_at m (slice_get flow.seats.items seat);
+      place = λ seat. position_at m (slice_get flow.seats.items seat);
+      done = λ seat. done_at flow.over (slice_get flow.seats.items seat);
       queue = λ arc. spread_all (items arc);
       source = λ port. things (to_release flow port);
     }
@@ -75,14 +75,14 @@ pub record IsFlow {O : Type 0} (m : Ghosts O) (flow : Flow O) : Type 0 where
   pub lanes : size flow.queues ≡ length flow.wires.arcs.items
   pub ended : (arc : ℕ) → arc < length flow.wires.arcs.items
       → (face flow.queues arc).ended ≡ done_at flow.over (slice_get flow.seats.items (from_of (slice_get flow.wires.arcs.items arc)))
-  pub seats : (actor : ℕ) → holds_at (IsSeat m ((net_of flow.wires).takes actor) ((net_of flow.wires).fits actor) flow.levels.epoch flow.taken)
-      (slice_get flow.seats.items actor)
+  pub seats : (seat : ℕ) → holds_at (IsSeat m ((net_of flow.wires).takes seat) ((net_of flow.wires).fits seat) flow.levels.epoch flow.taken)
+      (slice_get flow.seats.items seat)
   pub few : flow.taken < 2 ^ 62
   pub held : (table : ℕ → ℕ → ℕ) → AgreesWith flow.levels table
-      → (actor port : ℕ) → ThingsUpTo flow.clock (rest_at m table (slice_get flow.seats.items actor) [] port)
+      → (seat port : ℕ) → ThingsUpTo flow.clock (rest_at m table (slice_get flow.seats.items seat) [] port)
   pub replay : IsReplaying flow.sources.items flow.clock flow.counts.items flow.over
   pub levels : (flow.levels.closed ≡ flow.clock / flow.levels.epoch + 1) × (flow.clock < 2 ^ 40)
-  pub owned : (actor : ℕ) → holds_at (Owns m (IsOwn flow.wires actor) flow.levels) (slice_get flow.seats.items actor)
+  pub owned : (seat : ℕ) → holds_at (Owns m (IsOwn flow.wires seat) flow.levels) (slice_get flow.seats.items seat)
 
 -- and at one table of levels, where these items stand on the arcs
 pub record HoldsItems {O : Type 0} (m : Ghosts O) (table : ℕ → ℕ → ℕ) (items : ℕ → List Item) (flow : Flow O) : Type 0 where
@@ -95,7 +95,7 @@ lines_left m table items flow output = tuples_in (coming (net_of flow.wires) (wo
 
 -- the batches that an operator will still drop
 abbrev pub decisions_left : {O : Type 0} → Ghosts O → (ℕ → ℕ → ℕ) → (ℕ → List Item) → Flow O → ℕ → List Decision
-decisions_left m table items flow actor = still_dropped (net_of flow.wires) (world_of m table items flow) flow.wires.order.items actor
+decisions_left m table items flow seat = still_dropped (net_of flow.wires) (world_of m table items flow) flow.wires.order.items seat
 
 -- what is still to be taken from an arc: what stands on it, and then what will still come
 abbrev pub left_on : {O : Type 0} → Ghosts O → (ℕ → ℕ → ℕ) → (ℕ → List Item) → Flow O → ℕ → List Thing
@@ -103,14 +103,14 @@ left_on m table items flow arc = left (net_of flow.wires) (world_of m table item
 
 -- what an operator was fed at a port
 abbrev pub fed_on : {O : Type 0} → Flow O → ℕ → ℕ → List Thing
-fed_on flow actor port = given port (fed_items_at (slice_get flow.seats.items actor))
+fed_on flow seat port = given port (fed_items_at (slice_get flow.seats.items seat))
 
 -- how many tuples an operator will have been fed at the end, and how many of them it will have lost
 abbrev pub fed_at_last : {O : Type 0} → Ghosts O → (ℕ → ℕ → ℕ) → (ℕ → List Item) → Flow O → ℕ → ℕ
-fed_at_last m table items flow actor = fed_in_all (net_of flow.wires) (world_of m table items flow) flow.wires.order.items actor
+fed_at_last m table items flow seat = fed_in_all (net_of flow.wires) (world_of m table items flow) flow.wires.order.items seat
 
 abbrev pub lost_at_last : {O : Type 0} → Ghosts O → (ℕ → ℕ → ℕ) → (ℕ → List Item) → Flow O → ℕ → ℕ
-lost_at_last m table items flow actor = lost_in_all (net_of flow.wires) (world_of m table items flow) flow.wires.order.items actor
+lost_at_last m table items flow seat = lost_in_all (net_of flow.wires) (world_of m table items flow) flow.wires.order.items seat
 
 abbrev pub sum_below : (ℕ → ℕ) → ℕ → ℕ
 sum_below f zero = 0
@@ -118,7 +118,7 @@ sum_below f (suc n) = sum_below f n + f n
 
 -- how many tuples all operators were fed, and how many they will have been fed at the end
 abbrev pub taken_in_all : {O : Type 0} → Ghosts O → Flow O → ℕ
-taken_in_all m flow = sum_below (λ actor. taken_at m (slice_get flow.seats.items actor)) (length flow.seats.items)
+taken_in_all m flow = sum_below (λ seat. taken_at m (slice_get flow.seats.items seat)) (length flow.seats.items)
 
 abbrev pub work_at_last : {O : Type 0} → Ghosts O → (ℕ → ℕ → ℕ) → (ℕ → List Item) → Flow O → ℕ
 work_at_last m table items flow = sum_below (fed_at_last m table items flow) (length flow.seats.items)
@@ -126,7 +126,7 @@ work_at_last m table items flow = sum_below (fed_at_last m table items flow) (le
 -- how many marks and tuples all operators will have taken at the end
 abbrev pub turns_at_last : {O : Type 0} → Ghosts O → (ℕ → ℕ → ℕ) → (ℕ → List Item) → Flow O → ℕ
 turns_at_last m table items flow =
-    flow.taken + sum_below (λ actor. length (inputs (net_of flow.wires) (world_of m table items flow) flow.wires.order.items actor)) (length flow.seats.items)
+    flow.taken + sum_below (λ seat. length (inputs (net_of flow.wires) (world_of m table items flow) flow.wires.order.items seat)) (length flow.seats.items)
 
 -- what was shown, and then what is left, stays the same, and so do the numbers of what is fed, lost and taken in all; and at each
 -- port of each operator what was fed there, and then what is left of its arc, stays the same
@@ -137,11 +137,11 @@ pub record Goes {O : Type 0} (m : Ghosts O) (table : ℕ → ℕ → ℕ) (items
   pub drops : (w : ℕ) → flow.wires.sheds + w < flow.wires.shown
       → drops_of w events ++ decisions_left m table items flow (flow.wires.sheds + w)
       ≡ drops_of w events' ++ decisions_left m table items' flow' (flow.wires.sheds + w)
-  pub fed : (actor : ℕ) → actor < length flow.seats.items → fed_at_last m table items flow actor ≡ fed_at_last m table items' flow' actor
-  pub lost : (actor : ℕ) → actor < length flow.seats.items → lost_at_last m table items flow actor ≡ lost_at_last m table items' flow' actor
+  pub fed : (seat : ℕ) → seat < length flow.seats.items → fed_at_last m table items flow seat ≡ fed_at_last m table items' flow' seat
+  pub lost : (seat : ℕ) → seat < length flow.seats.items → lost_at_last m table items flow seat ≡ lost_at_last m table items' flow' seat
   pub turns : turns_at_last m table items flow ≡ turns_at_last m table items' flow'
-  pub arcs : (actor port arc : ℕ) → slice_get (arcs_read flow.wires actor) port ≡ Some arc
-      → fed_on flow actor port ++ left_on m table items flow arc ≡ fed_on flow' actor port ++ left_on m table items' flow' arc
+  pub arcs : (seat port arc : ℕ) → slice_get (arcs_read flow.wires seat) port ≡ Some arc
+      → fed_on flow seat port ++ left_on m table items flow arc ≡ fed_on flow' seat port ++ left_on m table items' flow' arc
 
 -- at each table that agrees with these levels, and at which the flow held the items that stood on its arcs, this holds, where the
 -- disk is known behind the call

@@ -1,4 +1,4 @@
--- The outlet of an actor.
+-- The outlet of an actor: what became of the items and the decisions that the actor gave.
 use Rattle.std.specs.Prelude.{◌≡◌, ℕ, None, IfSome}
 use Rattle.sq_outside.specs.Disks.{DiskLog}
 use Rattle.sq_pool.specs.Trust.{known}
@@ -8,25 +8,26 @@ use Rattle.sq_flow.specs.Wiring.{AllOutsFine}
 use Rattle.sq_flow.specs.Sends.{sent_to, is_sent_by, Pushes, MayGive}
 use Rattle.sq_flow.specs.Shows.{IsShown}
 
--- it takes more
+-- the actor may give more
 abbrev pub IsOpen : {D : Type 0} → (D → DiskLog) → QueueOutlet D → Type 0
-IsOpen log s = MayGive s.wires.now s.actor s.queues.now (known (log s.disk.now)) s.failed.now
+IsOpen log s = MayGive s.wires.now s.seat s.queues.now (known (log s.disk.now)) s.failed.now
 
--- it holds the same queues, disk and events, and the same room for a fault
+-- it is still the outlet of the same actor, over the same queues, disk and events, and keeps a fault where it did
 pub record HoldsSame {D : Type 0} (start s : QueueOutlet D) : Type 0 where
   pub queues : start.queues.ghost_name ≡ s.queues.ghost_name
   pub disk : start.disk.ghost_name ≡ s.disk.ghost_name
   pub events : start.events.ghost_name ≡ s.events.ghost_name
   pub failed : start.failed.ghost_name ≡ s.failed.ghost_name
   pub wires : s.wires ≡ start.wires
-  pub actor : s.actor ≡ start.actor
+  pub seat : s.seat ≡ start.seat
 
--- what an outlet became by what was noted: it went into the queues, and was shown. Where it met a fault it is known what shows why
+-- what the actor gave since the start: the batches that it dropped are shown, and so are its tuples where it is an output. Where no fault was met
+-- its items stand last on the arcs that come from it, and where one was something shows why
 pub record Came {D : Type 0} (log : D → DiskLog) (faults : D → ℕ) (start s : QueueOutlet D) : Type 0 where
   pub holds : HoldsSame start s
-  pub shown : IsShown s.wires.now s.actor s.given.items s.noted.drops start.events.now.items s.events.now.items
+  pub shown : IsShown s.wires.now s.seat s.given.items s.noted.drops start.events.now.items s.events.now.items
   pub sent : s.failed.now ≡ None
       → Pushes start.queues.now s.queues.now (known (log start.disk.now)) (known (log s.disk.now))
-      (sent_to s.wires.now s.actor s.given.items) (λ time. AllOutsFine time s.given.items) (is_sent_by s.wires.now s.actor)
+      (sent_to s.wires.now s.seat s.given.items) (λ time. AllOutsFine time s.given.items) (is_sent_by s.wires.now s.seat)
   pub fails : IfSome s.failed.now (FailsOver s.queues.now (log start.disk.now) (log s.disk.now) (faults start.disk.now) (faults s.disk.now))
   pub grows : LogGrows (log start.disk.now) (log s.disk.now) (faults start.disk.now) (faults s.disk.now)

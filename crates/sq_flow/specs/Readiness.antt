@@ -16,49 +16,49 @@ use Rattle.sq_oper.specs.declared.operator.Operator.{Ghosts}
 abbrev pub stands : Face → Bool
 stands f = is_some f.first || f.ended
 
--- an actor of a sound flow
-pub record HasActor {O : Type 0} (m : Ghosts O) (e : Flow O) (actor : ℕ) : Type 0 where
+-- a sound flow has an actor at a seat
+pub record HasActor {O : Type 0} (m : Ghosts O) (e : Flow O) (seat : ℕ) : Type 0 where
   pub flow : IsFlow m e
-  pub actor_in : actor ≤ length e.seats.items
+  pub actor_in : seat ≤ length e.seats.items
 
--- an actor that isn't finished and waits for no arc
-pub record IsReady {O : Type 0} (flow : Flow O) (actor : ℕ) : Type 0 where
-  pub running : done_at flow.over (slice_get flow.seats.items actor) ≡ false
-  pub standing : (port arc : ℕ) → slice_get (arcs_read flow.wires actor) port ≡ Some arc → stands (face flow.queues arc) ≡ true
+-- the actor at a seat isn't finished and waits for no arc
+pub record IsReady {O : Type 0} (flow : Flow O) (seat : ℕ) : Type 0 where
+  pub running : done_at flow.over (slice_get flow.seats.items seat) ≡ false
+  pub standing : (port arc : ℕ) → slice_get (arcs_read flow.wires seat) port ≡ Some arc → stands (face flow.queues arc) ≡ true
 
 -- the same as a test
 abbrev pub is_ready : {O : Type 0} → Flow O → ℕ → Bool
-is_ready flow actor = not (done_at flow.over (slice_get flow.seats.items actor)) && list_all (λ arc. stands (face flow.queues arc)) (arcs_read flow.wires actor)
+is_ready flow seat = not (done_at flow.over (slice_get flow.seats.items seat)) && list_all (λ arc. stands (face flow.queues arc)) (arcs_read flow.wires seat)
 
 -- what a call of one actor leaves alone: arcs that it neither reads nor writes keep their faces, those that it doesn't read only
 -- grow, and no other actor begins or ends
-pub record TouchesOnly {O : Type 0} (actor : ℕ) (flow flow' : Flow O) : Type 0 where
-  pub apart : (arc : ℕ) → arc < length flow.wires.arcs.items → to_of (slice_get flow.wires.arcs.items arc) ≢ actor
-      → from_of (slice_get flow.wires.arcs.items arc) ≢ actor → face flow'.queues arc ≡ face flow.queues arc
-  pub grows : (arc : ℕ) → arc < length flow.wires.arcs.items → to_of (slice_get flow.wires.arcs.items arc) ≢ actor
+pub record TouchesOnly {O : Type 0} (seat : ℕ) (flow flow' : Flow O) : Type 0 where
+  pub apart : (arc : ℕ) → arc < length flow.wires.arcs.items → to_of (slice_get flow.wires.arcs.items arc) ≢ seat
+      → from_of (slice_get flow.wires.arcs.items arc) ≢ seat → face flow'.queues arc ≡ face flow.queues arc
+  pub grows : (arc : ℕ) → arc < length flow.wires.arcs.items → to_of (slice_get flow.wires.arcs.items arc) ≢ seat
       → stands (face flow.queues arc) ≡ true → stands (face flow'.queues arc) ≡ true
-  pub others : (other : ℕ) → other ≤ length flow.seats.items → other ≢ actor
+  pub others : (other : ℕ) → other ≤ length flow.seats.items → other ≢ seat
       → done_at flow'.over (slice_get flow'.seats.items other) ≡ done_at flow.over (slice_get flow.seats.items other)
 
 -- how many items wait for an actor, as far as a u64 counts
 abbrev pub waiting : {O : Type 0} → Flow O → ℕ → ℕ
-waiting flow actor = min (2 ^ 64 - 1) (sum (map (λ arc. (face flow.queues arc).count) (arcs_read flow.wires actor)))
+waiting flow seat = min (2 ^ 64 - 1) (sum (map (λ arc. (face flow.queues arc).count) (arcs_read flow.wires seat)))
 
 -- how many items an actor may still take by itself: those that stand on the arcs that it reads, or what the replay has to release
 abbrev pub to_take : {O : Type 0} → Flow O → ℕ → ℕ
-to_take flow actor =
-    if actor == length flow.seats.items then count_all flow.sources.items else sum_by (λ arc. (face flow.queues arc).count) (arcs_read flow.wires actor)
+to_take flow seat =
+    if seat == length flow.seats.items then count_all flow.sources.items else sum_by (λ arc. (face flow.queues arc).count) (arcs_read flow.wires seat)
 
 -- an actor took so many items, and then it is finished or not
-pub record Took {O : Type 0} (actor fed : ℕ) (finished : Bool) (flow flow' : Flow O) : Type 0 where
-  pub falls : to_take flow' actor + fed ≡ to_take flow actor
-  pub done : finished ≡ done_at flow'.over (slice_get flow'.seats.items actor)
+pub record Took {O : Type 0} (seat fed : ℕ) (finished : Bool) (flow flow' : Flow O) : Type 0 where
+  pub falls : to_take flow' seat + fed ≡ to_take flow seat
+  pub done : finished ≡ done_at flow'.over (slice_get flow'.seats.items seat)
 
 -- a step that feeds takes one item, and one that finishes an actor none
 abbrev pub TookBy : {O : Type 0} → ℕ → Did → Flow O → Flow O → Type 0
-TookBy actor Waits flow flow' = Unit {0}
-TookBy actor Fed flow flow' = Took actor 1 false flow flow'
-TookBy actor Finished flow flow' = Took actor 0 true flow flow'
+TookBy seat Waits flow flow' = Unit {0}
+TookBy seat Fed flow flow' = Took seat 1 false flow flow'
+TookBy seat Finished flow flow' = Took seat 0 true flow flow'
 
 -- a fact of a step that waits
 abbrev pub WaitsOnly : Did → Type 0 → Type 0

@@ -12,10 +12,10 @@ use Rattle.sq_flow.specs.Plans.{plans_of}
 use Rattle.sq_oper.specs.Streams.{tuples_in}
 
 -- where the actor gave these items and dropped these batches the decisions were shown, and of an output the tuples at its port 0
-pub record IsShown (wires : Wires) (actor : ℕ) (items : List (ℕ × Item)) (drops : List Decision) (events events' : List Event) : Type 0 where
-  pub lines : (o : ℕ) → lines_of o events' ≡ lines_of o events ++ tuples_in (pushed_by actor items (wires.shown + o) 0)
+pub record IsShown (wires : Wires) (seat : ℕ) (items : List (ℕ × Item)) (drops : List Decision) (events events' : List Event) : Type 0 where
+  pub lines : (o : ℕ) → lines_of o events' ≡ lines_of o events ++ tuples_in (pushed_by seat items (wires.shown + o) 0)
   pub decided : (w : ℕ) → drops_of w events' ≡ drops_of w events ++ of_drop w drops
   pub plans : plans_of events' ≡ plans_of events
-  pub below : (outputs : ℕ) → actor < wires.shown + outputs → AllByRecursion (IsOwn wires actor) drops
+  pub below : (outputs : ℕ) → seat < wires.shown + outputs → AllByRecursion (IsOwn wires seat) drops
       → ShowsIn outputs (wires.shown - wires.sheds) events events'
   pub stay : IsPrefixOf events events'

@@ -48,7 +48,7 @@ pub record AreNewSources (sources : List Recorded) : Type 0 where
 -- the parts of a new flow: the operators are joined by these wires, nothing was fed to them, and no level is known
 pub record AreNewParts {O : Type 0} (m : Ghosts O) (wires : Wires) (ops : List (Seat O)) (streams : List Recorded) (table : LevelTable) (most : ℕ) : Type 0 where
   pub shaped : IsShaped wires (length ops)
-  pub seats : (actor : ℕ) → holds_at (IsNewSeat m ((net_of wires).takes actor) ((net_of wires).fits actor) (IsOwn wires actor) table.epoch) (slice_get ops actor)
+  pub seats : (seat : ℕ) → holds_at (IsNewSeat m ((net_of wires).takes seat) ((net_of wires).fits seat) (IsOwn wires seat) table.epoch) (slice_get ops seat)
   pub sources : AreNewSources streams
   pub levels : (table.closed ≡ 1) × (table.rows ≡ [])
   pub frames : 2 ≤ most

@@ -49,14 +49,14 @@ pub record MayStep {O : Type 0} (m : Ghosts O) (e : Flow O) (was : Option Pages)
   pub whole : failed ≡ None
 
 -- an operator that isn't finished, and what comes next on the arcs that it reads
-pub record HasNext {O : Type 0} (e : Flow O) (actor : ℕ) (next : Next) : Type 0 where
-  pub actor_in : actor < length e.seats.items
-  pub head : NextUpTo (arcs_read e.wires actor) (λ a. (face e.queues a).first) (λ a. (face e.queues a).ended) (length (arcs_read e.wires actor)) next
-  pub running : done_at e.over (slice_get e.seats.items actor) ≡ false
+pub record HasNext {O : Type 0} (e : Flow O) (seat : ℕ) (next : Next) : Type 0 where
+  pub actor_in : seat < length e.seats.items
+  pub head : NextUpTo (arcs_read e.wires seat) (λ a. (face e.queues a).first) (λ a. (face e.queues a).ended) (length (arcs_read e.wires seat)) next
+  pub running : done_at e.over (slice_get e.seats.items seat) ≡ false
 
-pub record HasFeed {O : Type 0} (e : Flow O) (actor port arc : ℕ) : Type 0 where
+pub record HasFeed {O : Type 0} (e : Flow O) (seat port arc : ℕ) : Type 0 where
   pub time : ℕ
-  pub next : HasNext e actor (Feed time port arc)
+  pub next : HasNext e seat (Feed time port arc)
 
 -- what any call keeps: the disk forgets nothing, no count of faults falls, and nothing that was shown is taken back
 pub record Remains {O : Type 0} (before after : Stage O) : Type 0 where
@@ -65,41 +65,41 @@ pub record Remains {O : Type 0} (before after : Stage O) : Type 0 where
   pub stay : IsPrefixOf before.events after.events
 
 -- calls of one actor that ended Ok
-pub record Proceeds {O : Type 0} (m : Ghosts O) (actor : ℕ) (before after : Stage O) : Type 0 where
+pub record Proceeds {O : Type 0} (m : Ghosts O) (seat : ℕ) (before after : Stage O) : Type 0 where
   pub stepped : Stepped m (known before.log) (known after.log) before.flow after.flow before.events after.events
   pub keeps : Remains before after
-  pub touches : TouchesOnly actor before.flow after.flow
+  pub touches : TouchesOnly seat before.flow after.flow
   pub cost : CostsFed m before.flow after.flow before.steps after.steps
 
 -- a step that ended Ok: what it did lowers the measure, and takes what such a step takes. It waits only where the actor isn't ready
-pub record StepOk {O : Type 0} (m : Ghosts O) (actor : ℕ) (did : Did) (before after : Stage O) : Type 0 where
-  pub moves : Proceeds m actor before after
+pub record StepOk {O : Type 0} (m : Ghosts O) (seat : ℕ) (did : Did) (before after : Stage O) : Type 0 where
+  pub moves : Proceeds m seat before after
   pub lowers : Lowers did (measure_of before.flow) (measure_of after.flow)
-  pub took : TookBy actor did before.flow after.flow
-  pub waits : WaitsOnly did ((IsReady before.flow actor → ⊥) × (after.flow ≡ before.flow))
+  pub took : TookBy seat did before.flow after.flow
+  pub waits : WaitsOnly did ((IsReady before.flow seat → ⊥) × (after.flow ≡ before.flow))
 
 -- and it met no fault
-pub record StepWhole {O : Type 0} (m : Ghosts O) (actor : ℕ) (did : Did) (before after : Stage O) (failed : Option RunErr) : Type 0 where
-  pub step : StepOk m actor did before after
+pub record StepWhole {O : Type 0} (m : Ghosts O) (seat : ℕ) (did : Did) (before after : Stage O) (failed : Option RunErr) : Type 0 where
+  pub step : StepOk m seat did before after
   pub whole : failed ≡ None
 
 -- a step that touched nothing outside, whatever is known of the pages and was shown before it. It fed nothing
-pub record StepsAlone {O : Type 0} (m : Ghosts O) (actor : ℕ) (did : Did) (flow flow' : Flow O) : Type 0 where
+pub record StepsAlone {O : Type 0} (m : Ghosts O) (seat : ℕ) (did : Did) (flow flow' : Flow O) : Type 0 where
   pub stepped : (pages : Option Pages) (events : List Event) → Together flow.queues pages → Stepped m pages pages flow flow' events events
   pub closes : (table : ℕ → ℕ → ℕ) → AgreesWith flow'.levels table → AgreesWith flow.levels table
-  pub touches : TouchesOnly actor flow flow'
+  pub touches : TouchesOnly seat flow flow'
   pub taken : taken_in_all m flow' ≡ taken_in_all m flow
   pub lowers : Lowers did (measure_of flow) (measure_of flow')
-  pub took : TookBy actor did flow flow'
+  pub took : TookBy seat did flow flow'
 
 -- a train of up to so many steps that ended Ok. It ends before only where the actor is finished or isn't ready
-pub record TrainOk {O : Type 0} (m : Ghosts O) (actor train : ℕ) (before after : Stage O) (p : Progress) : Type 0 where
-  pub moves : Proceeds m actor before after
+pub record TrainOk {O : Type 0} (m : Ghosts O) (seat train : ℕ) (before after : Stage O) (p : Progress) : Type 0 where
+  pub moves : Proceeds m seat before after
   pub falls : FallsBy p.fed p.finished (measure_of before.flow) (measure_of after.flow)
-  pub took : done_at before.flow.over (slice_get before.flow.seats.items actor) ≡ false → Took actor p.fed p.finished before.flow after.flow
+  pub took : done_at before.flow.over (slice_get before.flow.seats.items seat) ≡ false → Took seat p.fed p.finished before.flow after.flow
   pub most : p.fed ≤ train
-  pub works : IsReady before.flow actor → p.fed ≡ 0 → p.finished ≡ true
-  pub stops : (p.fed ≡ train) ⊎ ((p.finished ≡ true) ⊎ (IsReady after.flow actor → ⊥))
+  pub works : IsReady before.flow seat → p.fed ≡ 0 → p.finished ≡ true
+  pub stops : (p.fed ≡ train) ⊎ ((p.finished ≡ true) ⊎ (IsReady after.flow seat → ⊥))
 
 -- a step, or a train, that failed: what was shown begins what was to be shown, by levels that were planned; the error has a cause that
 -- it shows, and no more work was done than there was

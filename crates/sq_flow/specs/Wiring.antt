@@ -1,4 +1,5 @@
 -- How wires join the actors, and what actors put on arcs.
+-- The wires count actors by their seats: the operators sit at 0, 1, .. in the order of `seats`, and the replay sits behind the last of them.
 use Rattle.std.specs.Prelude.{◌≡◌, ℕ, ◌+◌, ◌==◌, ◌≤◌, ◌<◌, ◌^◌, Bool, true, false, List, [], ◌∷◌, length, Option, Some, None, Vec, slice_get, if◌then◌else◌}
 use Rattle.std.specs.declared.alloc.Global.{Global}
 use Rattle.sq_value.specs.declared.Value.{Value}
@@ -46,22 +47,22 @@ abbrev pub fits_on : Option Arc → List Value → Bool
 fits_on None fields = false
 fits_on (Some arc) fields = kinds_fit arc.kinds fields
 
--- the arcs that an operator reads, by port
+-- the arcs that the operator at a seat reads, by port
 abbrev pub arcs_read : Wires → ℕ → List ℕ
-arcs_read wires actor = numbers_in (slice_get wires.inputs.items actor)
+arcs_read wires seat = numbers_in (slice_get wires.inputs.items seat)
 
 -- the arc at a port
 abbrev pub arc_wired : Wires → Option ℕ → Option Arc
 arc_wired wires None = None
 arc_wired wires (Some at) = slice_get wires.arcs.items at
 
--- the arcs that come from a port of an actor
+-- the arcs that come from a port of the actor at a seat
 abbrev pub arcs_from : Wires → ℕ → ℕ → List ℕ
-arcs_from wires actor port = numbers_in (slice_get (rows_in (slice_get wires.readers.items actor)) port)
+arcs_from wires seat port = numbers_in (slice_get (rows_in (slice_get wires.readers.items seat)) port)
 
--- the operators that read from an actor
+-- the seats of the operators that read from the actor at a seat
 abbrev pub followers_of : Wires → ℕ → List ℕ
-followers_of wires actor = numbers_in (slice_get wires.followers.items actor)
+followers_of wires seat = numbers_in (slice_get wires.followers.items seat)
 
 -- each number is greater than the one before
 abbrev pub Climbs : List ℕ → Type 0
@@ -77,13 +78,13 @@ net_of wires =
       arcs = arcs_read wires;
       from = λ arc. from_of (slice_get wires.arcs.items arc);
       port = λ arc. arc_port (slice_get wires.arcs.items arc);
-      takes = λ actor port. marked_of (arc_wired wires (slice_get (arcs_read wires actor) port));
-      fits = λ actor port fields. fits_on (arc_wired wires (slice_get (arcs_read wires actor) port)) fields;
+      takes = λ seat port. marked_of (arc_wired wires (slice_get (arcs_read wires seat) port));
+      fits = λ seat port fields. fits_on (arc_wired wires (slice_get (arcs_read wires seat) port)) fields;
     }
 
 -- what items that an actor gives are on a stream
 abbrev pub pushed_by : ℕ → List (ℕ × Item) → ℕ → ℕ → List Thing
-pushed_by actor outs from to = if actor == from then given to outs else []
+pushed_by seat outs from to = if seat == from then given to outs else []
 
 abbrev pub AllOutsFine : ℕ → List (ℕ × Item) → Type 0
 AllOutsFine time [] = Unit {0}
@@ -94,9 +95,9 @@ abbrev pub times_in : ℕ → List ℕ → ℕ
 times_in n [] = 0
 times_in n (x ∷ xs) = (if x == n then 1 else 0) + times_in n xs
 
--- a decision is one of this operator: operators `sheds`, `sheds` + 1, .. below `shown` are the drops 0, 1, ..
+-- a decision is one of the operator at this seat: at the seats `sheds`, `sheds` + 1, .. below `shown` sit the drops 0, 1, ..
 abbrev pub IsOwn : Wires → ℕ → Decision → Type 0
-IsOwn wires actor d = (wires.sheds + d.drop ≡ actor) × (actor < wires.shown)
+IsOwn wires seat d = (wires.sheds + d.drop ≡ seat) × (seat < wires.shown)
 
 -- how many actors there are, and how the arcs lead: each arc stands once among those that come from where it comes from
 pub record IsShaped (wires : Wires) (ops : ℕ) : Type 0 where
@@ -107,21 +108,21 @@ pub record IsShaped (wires : Wires) (ops : ℕ) : Type 0 where
   pub shown_in : wires.shown ≤ ops
   pub inputs_len : length wires.inputs.items ≡ ops
   pub readers_len : length wires.readers.items ≡ ops + 1
-  pub arcs_in : (actor port arc : ℕ) → slice_get (arcs_read wires actor) port ≡ Some arc → arc < length wires.arcs.items
-  pub ports : (actor : ℕ) → length (arcs_read wires actor) < 2 ^ 32
+  pub arcs_in : (seat port arc : ℕ) → slice_get (arcs_read wires seat) port ≡ Some arc → arc < length wires.arcs.items
+  pub ports : (seat : ℕ) → length (arcs_read wires seat) < 2 ^ 32
   pub from_in : (arc : ℕ) → arc < length wires.arcs.items → from_of (slice_get wires.arcs.items arc) < ops + 1
-  pub joined : (actor port arc : ℕ) → slice_get (arcs_read wires actor) port ≡ Some arc
-      → (to_of (slice_get wires.arcs.items arc) ≡ actor) × (arc_place (slice_get wires.arcs.items arc) ≡ port)
-  pub read : (actor port arc : ℕ) → arc < length wires.arcs.items
-      → times_in arc (arcs_from wires actor port)
-      ≡ (if actor == from_of (slice_get wires.arcs.items arc) then (if port == arc_port (slice_get wires.arcs.items arc) then 1 else 0) else 0)
-  pub readers_in : (actor port place arc : ℕ) → slice_get (arcs_from wires actor port) place ≡ Some arc → arc < length wires.arcs.items
-  pub outputs_end : (actor port : ℕ) → wires.shown ≤ actor → actor < ops → arcs_from wires actor port ≡ []
+  pub joined : (seat port arc : ℕ) → slice_get (arcs_read wires seat) port ≡ Some arc
+      → (to_of (slice_get wires.arcs.items arc) ≡ seat) × (arc_place (slice_get wires.arcs.items arc) ≡ port)
+  pub read : (seat port arc : ℕ) → arc < length wires.arcs.items
+      → times_in arc (arcs_from wires seat port)
+      ≡ (if seat == from_of (slice_get wires.arcs.items arc) then (if port == arc_port (slice_get wires.arcs.items arc) then 1 else 0) else 0)
+  pub readers_in : (seat port place arc : ℕ) → slice_get (arcs_from wires seat port) place ≡ Some arc → arc < length wires.arcs.items
+  pub outputs_end : (seat port : ℕ) → wires.shown ≤ seat → seat < ops → arcs_from wires seat port ≡ []
   pub followers_len : length wires.followers.items ≡ ops + 1
   pub followed : (arc : ℕ) → arc < length wires.arcs.items
       → contains_number (followers_of wires (from_of (slice_get wires.arcs.items arc))) (to_of (slice_get wires.arcs.items arc)) ≡ true
-  pub followers_in : (actor follower : ℕ) → contains_number (followers_of wires actor) follower ≡ true → follower < ops
-  pub followers_climb : (actor : ℕ) → Climbs (followers_of wires actor)
+  pub followers_in : (seat follower : ℕ) → contains_number (followers_of wires seat) follower ≡ true → follower < ops
+  pub followers_climb : (seat : ℕ) → Climbs (followers_of wires seat)
   pub wired : IsLaidOut (net_of wires) wires.order.items
-  pub listed : (actor : ℕ) → is_known_actor (net_of wires) wires.order.items actor ≡ true → actor < ops + 1
-  pub ordered : (actor : ℕ) → actor < ops → is_known_actor (net_of wires) wires.order.items actor ≡ true
+  pub listed : (seat : ℕ) → is_known_actor (net_of wires) wires.order.items seat ≡ true → seat < ops + 1
+  pub ordered : (seat : ℕ) → seat < ops → is_known_actor (net_of wires) wires.order.items seat ≡ true

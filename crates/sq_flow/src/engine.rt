@@ -23,7 +23,7 @@ use sq_sched::{Pick, Ready};
 use std::alloc::{AllocError, Global};
 use std::sync::ledger::Ledger;
 
-/// A flow, which actors are ready, and how many items wait for each. Actor 0 is the replay; operator k is actor k + 1.
+/// A flow, which actors are ready, and how many items wait for each. Actor 0 is the replay; the operator at seat k is actor k + 1.
 pub struct Engine<O> {
     pub flow: Flow<O>,
     pub ready: Ready,
@@ -52,10 +52,10 @@ pub enum State {
     Failed,
 }
 
-/// An actor's place in the flow: actor 0 is the replay, which stands behind the operators.
+/// The seat of an actor: actor 0 is the replay, which sits behind so many operators.
 fn seat_number(ops: u32, actor: u32) -> u32
     requires { actor ≤ ops }
-    ensures place { result ≡ seat_number ops actor }
+    ensures seat { result ≡ seat_number ops actor }
     ensures within { result ≤ ops }
 {
     if actor == 0 { ops } else { actor - 1 }
@@ -84,8 +84,8 @@ impl<O: Operator + Drop> Engine<O> {
         frames: u32,
     ) -> Result<Engine<O>, AllocError>
         requires shaped { IsShaped wires (length seats.items) }
-        requires seats { (actor : ℕ) → holds_at (IsNewSeat O.Operator ((net_of wires).takes actor) ((net_of wires).fits actor) (IsOwn wires actor) levels.epoch)
-            (slice_get seats.items actor) }
+        requires seats { (seat : ℕ) → holds_at (IsNewSeat O.Operator ((net_of wires).takes seat) ((net_of wires).fits seat) (IsOwn wires seat) levels.epoch)
+            (slice_get seats.items seat) }
         requires sources { AreNewSources sources.items }
         requires levels { (levels.closed ≡ 1) × (levels.rows ≡ []) }
         requires frames { 2 ≤ frames }
@@ -117,9 +117,9 @@ impl<O: Operator + Drop> Engine<O> {
         requires there { actor ≤ length self.old.flow.seats.items }
         ensures { Looked (actor ∷ []) self.old self.new }
     {
-        let place = seat_number(self.flow.wires.replay, actor);
-        self.waits[actor as usize] = self.flow.waiting(place);
-        if !self.ready.has(actor) && self.flow.is_ready(place) {
+        let seat = seat_number(self.flow.wires.replay, actor);
+        self.waits[actor as usize] = self.flow.waiting(seat);
+        if !self.ready.has(actor) && self.flow.is_ready(seat) {
             self.ready.push(actor);
         }
     }
@@ -134,14 +134,14 @@ impl<O: Operator + Drop> Engine<O> {
         }
     }
 
-    /// Looks at the operators that read from the actor at a place, in ascending number.
-    fn look_at_readers(&mut self, place: u32)
+    /// Looks at the operators that read from the actor at a seat, in ascending number.
+    fn look_at_readers(&mut self, seat: u32)
         requires looks { MayLook O.Operator self.old }
-        requires there { place ≤ length self.old.flow.seats.items }
-        ensures { Looked (readers_of self.old.flow place) self.old self.new }
+        requires there { seat ≤ length self.old.flow.seats.items }
+        ensures { Looked (readers_of self.old.flow seat) self.old self.new }
     {
-        for index in 0..self.flow.count_readers(place) {
-            let reader = self.flow.reader(place, index);
+        for index in 0..self.flow.count_readers(seat) {
+            let reader = self.flow.reader(seat, index);
             self.look_at(reader);
         }
     }
@@ -166,16 +166,16 @@ impl<O: Operator + Drop> Engine<O> {
             (stage D.PageDisk self.new.flow disk.new events.new.items steps.new)) }
         ensures failed { OnErr result (self.new.failed ≡ true) }
     {
-        let place = seat_number(self.flow.wires.replay, pick.actor);
+        let seat = seat_number(self.flow.wires.replay, pick.actor);
         self.ready.remove(pick.actor);
-        match self.flow.train(disk, place, pick.train, events, steps) {
+        match self.flow.train(disk, seat, pick.train, events, steps) {
             Err(e) => {
                 self.failed = true;
                 Err(e)
             }
             Ok(progress) => {
                 self.look_at(pick.actor);
-                self.look_at_readers(place);
+                self.look_at_readers(seat);
                 Ok(progress)
             }
         }
@@ -195,13 +195,13 @@ impl<O: Operator + Drop> Engine<O> {
         &self.waits
     }
 
-    /// How many tuples an operator was fed.
-    pub fn fed(&self, operator: u32) -> u64
+    /// How many tuples the operator at a seat was fed.
+    pub fn fed(&self, seat: u32) -> u64
         requires engine { IsEngine O.Operator self.now }
-        requires there { operator < length self.now.flow.seats.items }
-        ensures { result ≡ taken_at O.Operator (slice_get self.now.flow.seats.items operator) }
+        requires there { seat < length self.now.flow.seats.items }
+        ensures { result ≡ taken_at O.Operator (slice_get self.now.flow.seats.items seat) }
     {
-        self.flow.seats[operator as usize].tally.taken
+        self.flow.seats[seat as usize].tally.taken
     }
 
     /// The engine runs as long as an actor isn't finished, and then the ready list isn't empty; it is done where all are. It has
@@ -231,19 +231,19 @@ impl<O: Operator + Drop> Engine<O> {
             → (output : ℕ) → self.now.flow.wires.shown + output < length self.now.flow.seats.items
             → lines_left O.Operator table (items_in self.now.flow pages) self.now.flow output ≡ [] }
         ensures drops { (pages : Option Pages) (table : ℕ → ℕ → ℕ) → HoldsItems O.Operator table (items_in self.now.flow pages) self.now.flow
-            → (actor : ℕ) → actor < length self.now.flow.seats.items → decisions_left O.Operator table (items_in self.now.flow pages) self.now.flow actor ≡ [] }
+            → (seat : ℕ) → seat < length self.now.flow.seats.items → decisions_left O.Operator table (items_in self.now.flow pages) self.now.flow seat ≡ [] }
         ensures fed { (pages : Option Pages) (table : ℕ → ℕ → ℕ) → HoldsItems O.Operator table (items_in self.now.flow pages) self.now.flow
-            → (actor : ℕ) → actor < length self.now.flow.seats.items
-            → fed_at_last O.Operator table (items_in self.now.flow pages) self.now.flow actor
-            ≡ taken_at O.Operator (slice_get self.now.flow.seats.items actor) }
+            → (seat : ℕ) → seat < length self.now.flow.seats.items
+            → fed_at_last O.Operator table (items_in self.now.flow pages) self.now.flow seat
+            ≡ taken_at O.Operator (slice_get self.now.flow.seats.items seat) }
         ensures lost { (pages : Option Pages) (table : ℕ → ℕ → ℕ) → HoldsItems O.Operator table (items_in self.now.flow pages) self.now.flow
-            → (actor : ℕ) → actor < length self.now.flow.seats.items
-            → lost_at_last O.Operator table (items_in self.now.flow pages) self.now.flow actor
-            ≡ lost_at O.Operator (slice_get self.now.flow.seats.items actor) [] }
+            → (seat : ℕ) → seat < length self.now.flow.seats.items
+            → lost_at_last O.Operator table (items_in self.now.flow pages) self.now.flow seat
+            ≡ lost_at O.Operator (slice_get self.now.flow.seats.items seat) [] }
         ensures work { (pages : Option Pages) (table : ℕ → ℕ → ℕ) → HoldsItems O.Operator table (items_in self.now.flow pages) self.now.flow
             → work_at_last O.Operator table (items_in self.now.flow pages) self.now.flow ≡ taken_in_all O.Operator self.now.flow }
         ensures arcs { (pages : Option Pages) (table : ℕ → ℕ → ℕ) → HoldsItems O.Operator table (items_in self.now.flow pages) self.now.flow
-            → (actor port arc : ℕ) → actor < length self.now.flow.seats.items → slice_get (arcs_read self.now.flow.wires actor) port ≡ Some arc
+            → (seat port arc : ℕ) → seat < length self.now.flow.seats.items → slice_get (arcs_read self.now.flow.wires seat) port ≡ Some arc
             → left_on O.Operator table (items_in self.now.flow pages) self.now.flow arc ≡ [] }
     {
         let _engine = self;

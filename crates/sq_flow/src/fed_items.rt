@@ -25,7 +25,7 @@ impl Model for FedItems {
 impl FedItems {
     ghost use Rattle.sq_flow.specs.Seats.{unfed};
 
-    /// Nothing was fed yet.
+    /// The list of an operator that was fed nothing, or gave nothing.
     #[inline(always)]
     pub fn new() -> FedItems
         ensures { result ≡ unfed }
@@ -35,7 +35,7 @@ impl FedItems {
         }
     }
 
-    /// One item more.
+    /// The same list with an item behind it, at its port.
     #[inline(always)]
     pub(crate) fn with(&self, _port: u32, _item: &Item) -> FedItems
         ensures { result.items ≡ self.now.items ++ (_port, _item.now) ∷ [] }

@@ -112,14 +112,14 @@ fn end_if(queues: &mut Queues, arc: u32, ends: bool)
     }
 }
 
-/// All arcs that come from an actor end.
-fn end_arcs(wires: &Wires, queues: &mut Queues, actor: u32)
+/// All arcs that come from the actor at a seat end.
+fn end_arcs(wires: &Wires, queues: &mut Queues, seat: u32)
     requires lanes { size queues.old ≡ length wires.now.arcs.items }
     requires few { length wires.now.arcs.items < 2 ^ 32 }
-    ensures { EndsOnly wires.now actor queues.old queues.new }
+    ensures { EndsOnly wires.now seat queues.old queues.new }
 {
     for arc in 0..wires.arcs.len() as u32 {
-        end_if(queues, arc, wires.arc(arc).from == actor);
+        end_if(queues, arc, wires.arc(arc).from == seat);
     }
 }
 
@@ -132,7 +132,7 @@ impl<O: Operator + Drop> Flow<O> {
     pub(crate) fn feed_step<D: PageDisk, L: Ledger>(
         &mut self,
         disk: &mut D,
-        actor: u32,
+        seat: u32,
         port: u32,
         arc: u32,
         events: &mut Vec<Event>,
@@ -140,14 +140,14 @@ impl<O: Operator + Drop> Flow<O> {
         failed: &mut Option<RunErr>,
     ) -> Result<(), RunErr>
         requires may { MayStep O.Operator self.old (known (D.log disk.old)) failed.old }
-        requires feeds { HasFeed self.old actor port arc }
-        ensures ok { OnOk result (StepWhole O.Operator actor Did.Fed (stage D.PageDisk self.old disk.old events.old.items steps.old)
+        requires feeds { HasFeed self.old seat port arc }
+        ensures ok { OnOk result (StepWhole O.Operator seat Did.Fed (stage D.PageDisk self.old disk.old events.old.items steps.old)
             (stage D.PageDisk self.new disk.new events.new.items steps.new) failed.new) }
         ensures err { IfErr result (StepErr O.Operator (stage D.PageDisk self.old disk.old events.old.items steps.old)
             (stage D.PageDisk self.new disk.new events.new.items steps.new)) }
     {
         let at = self.wires.arc(arc);
-        let place = self.seats[actor as usize].tally.place;
+        let place = self.seats[seat as usize].tally.place;
         let clock = self.clock;
         let item = match take_item(&mut self.queues, disk, at, arc, port, place, clock) {
             Ok(item) => item,
@@ -158,14 +158,14 @@ impl<O: Operator + Drop> Flow<O> {
             Err(e) => return Err(e),
         };
         feed_into(
-            &mut self.seats[actor as usize],
+            &mut self.seats[seat as usize],
             &self.levels,
             port,
             item,
             &self.wires,
             &mut self.queues,
             disk,
-            actor,
+            seat,
             events,
             steps,
             failed,
@@ -177,27 +177,27 @@ impl<O: Operator + Drop> Flow<O> {
     pub(crate) fn finish_step<D: PageDisk>(
         &mut self,
         disk: &mut D,
-        actor: u32,
+        seat: u32,
         events: &mut Vec<Event>,
         failed: &mut Option<RunErr>,
     ) -> Result<(), RunErr>
         requires may { MayStep O.Operator self.old (known (D.log disk.old)) failed.old }
-        requires ended { HasNext self.old actor Next.Ended }
-        ensures ok { OnOk result ((n : ℕ) → StepWhole O.Operator actor Did.Finished (stage D.PageDisk self.old disk.old events.old.items n)
+        requires ended { HasNext self.old seat Next.Ended }
+        ensures ok { OnOk result ((n : ℕ) → StepWhole O.Operator seat Did.Finished (stage D.PageDisk self.old disk.old events.old.items n)
             (stage D.PageDisk self.new disk.new events.new.items n) failed.new) }
         ensures err { IfErr result (λ e. (n : ℕ) → StepErr O.Operator (stage D.PageDisk self.old disk.old events.old.items n)
             (stage D.PageDisk self.new disk.new events.new.items n) e) }
     {
         finish_into(
-            &mut self.seats[actor as usize],
+            &mut self.seats[seat as usize],
             &self.wires,
             &mut self.queues,
             disk,
-            actor,
+            seat,
             events,
             failed,
         )?;
-        end_arcs(&self.wires, &mut self.queues, actor);
+        end_arcs(&self.wires, &mut self.queues, seat);
         Ok(())
     }
 

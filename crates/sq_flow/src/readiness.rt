@@ -48,46 +48,46 @@ impl<O: Operator + Drop> Flow<O> {
     ghost use Rattle.sq_flow.specs.Readiness.{HasActor, is_ready, waiting};
     ghost use Rattle.sq_flow.specs.Engines.{readers_of};
 
-    /// An actor is ready.
-    pub(crate) fn is_ready(&self, actor: u32) -> bool
-        requires actor { HasActor O.Operator self.now actor }
-        ensures { result ≡ is_ready self.now actor }
+    /// The actor at a seat is ready.
+    pub(crate) fn is_ready(&self, seat: u32) -> bool
+        requires actor { HasActor O.Operator self.now seat }
+        ensures { result ≡ is_ready self.now seat }
     {
-        if self.is_done(actor) {
+        if self.is_done(seat) {
             return false;
         }
-        if actor == self.wires.replay {
+        if seat == self.wires.replay {
             return true;
         }
-        all_stand(self.wires.arcs_of(actor), &self.queues)
+        all_stand(self.wires.arcs_of(seat), &self.queues)
     }
 
-    /// How many items wait for an actor.
-    pub(crate) fn waiting(&self, actor: u32) -> u64
-        requires actor { HasActor O.Operator self.now actor }
-        ensures { result ≡ waiting self.now actor }
+    /// How many items wait for the actor at a seat.
+    pub(crate) fn waiting(&self, seat: u32) -> u64
+        requires actor { HasActor O.Operator self.now seat }
+        ensures { result ≡ waiting self.now seat }
     {
-        if actor == self.wires.replay {
+        if seat == self.wires.replay {
             return 0;
         }
-        count_waiting(self.wires.arcs_of(actor), &self.queues)
+        count_waiting(self.wires.arcs_of(seat), &self.queues)
     }
 
-    /// How many operators read from the actor at a place.
-    pub(crate) fn count_readers(&self, place: u32) -> usize
-        requires actor { HasActor O.Operator self.now place }
-        ensures { result ≡ length (readers_of self.now place) }
+    /// How many operators read from the actor at a seat.
+    pub(crate) fn count_readers(&self, seat: u32) -> usize
+        requires actor { HasActor O.Operator self.now seat }
+        ensures { result ≡ length (readers_of self.now seat) }
     {
-        self.wires.followers[place as usize].len()
+        self.wires.followers[seat as usize].len()
     }
 
-    /// One of the operators that read from the actor at a place, as an actor.
-    pub(crate) fn reader(&self, place: u32, index: usize) -> u32
-        requires actor { HasActor O.Operator self.now place }
-        requires within { index < length (readers_of self.now place) }
-        ensures reader { result ≡ slice_index (readers_of self.now place) index }
+    /// One of the operators that read from the actor at a seat, by its number.
+    pub(crate) fn reader(&self, seat: u32, index: usize) -> u32
+        requires actor { HasActor O.Operator self.now seat }
+        requires within { index < length (readers_of self.now seat) }
+        ensures reader { result ≡ slice_index (readers_of self.now seat) index }
         ensures low { result ≤ length self.now.seats.items }
     {
-        self.wires.followers[place as usize][index] + 1
+        self.wires.followers[seat as usize][index] + 1
     }
 }

@@ -26,7 +26,7 @@ pub struct Seat<O> {
     pub fed: FedItems,
 }
 
-/// Feeds an operator one item. What it gives goes on at once.
+/// Feeds the operator at the seat of a number one item. What it gives goes on at once.
 #[inline(always)]
 pub(crate) fn feed_into<O: Operator, D: PageDisk, L: Ledger>(
     seat: &mut Seat<O>,
@@ -36,17 +36,18 @@ pub(crate) fn feed_into<O: Operator, D: PageDisk, L: Ledger>(
     wires: &Wires,
     queues: &mut Queues,
     disk: &mut D,
-    actor: u32,
+    number: u32,
     events: &mut Vec<Event>,
     steps: &mut Steps<L>,
     failed: &mut Option<RunErr>,
 ) -> Result<(), RunErr>
     requires fits { MayFeed O.Operator levels.now port item seat.old }
-    requires gives { MayGive wires.now actor queues.old (known (D.log disk.old)) failed.old }
-    ensures fed { OnOk result (FeedsInto O.Operator levels.now port item wires.now actor seat.old seat.new
+    requires gives { MayGive wires.now number queues.old (known (D.log disk.old)) failed.old }
+    ensures fed { OnOk result (FeedsInto O.Operator levels.now port item wires.now number seat.old seat.new
         queues.old queues.new (known (D.log disk.old)) (known (D.log disk.new)) events.old.items events.new.items) }
-    ensures done { OnOk result ((failed.new ≡ None) × (steps.new ≡ steps.old + (if is_some item.body then 1 else 0))) }
-    ensures part { OnErr result (FeedsPart O.Operator levels.now port item wires.now actor seat.old events.old.items events.new.items) }
+    ensures whole { OnOk result (failed.new ≡ None) }
+    ensures cost { OnOk result (steps.new ≡ steps.old + (if is_some item.body then 1 else 0)) }
+    ensures part { OnErr result (FeedsPart O.Operator levels.now port item wires.now number seat.old events.old.items events.new.items) }
     ensures fails { IfErr result (FailsOver queues.new (D.log disk.old) (D.log disk.new) (D.faults disk.old) (D.faults disk.new)) }
     ensures disk { LogGrows (D.log disk.old) (D.log disk.new) (D.faults disk.old) (D.faults disk.new) }
     ensures no_cost { OnErr result (steps.new ≡ steps.old) }
@@ -60,7 +61,7 @@ pub(crate) fn feed_into<O: Operator, D: PageDisk, L: Ledger>(
         queues,
         disk,
         events,
-        actor,
+        seat: number,
         failed,
         given,
         noted,
@@ -71,7 +72,7 @@ pub(crate) fn feed_into<O: Operator, D: PageDisk, L: Ledger>(
         queues,
         disk,
         events,
-        actor: _,
+        seat: _,
         failed,
         given: _,
         noted: _,
@@ -87,22 +88,22 @@ pub(crate) fn feed_into<O: Operator, D: PageDisk, L: Ledger>(
     }
 }
 
-/// Finishes an operator. What it gives goes on at once.
+/// Finishes the operator at the seat of a number. What it gives goes on at once.
 pub(crate) fn finish_into<O: Operator, D: PageDisk>(
     seat: &mut Seat<O>,
     wires: &Wires,
     queues: &mut Queues,
     disk: &mut D,
-    actor: u32,
+    number: u32,
     events: &mut Vec<Event>,
     failed: &mut Option<RunErr>,
 ) -> Result<(), RunErr>
     requires is_valid { O.valid seat.old.op × (O.running seat.old.op ≡ true) }
-    requires gives { MayGive wires.now actor queues.old (known (D.log disk.old)) failed.old }
-    ensures finished { OnOk result (EndsInto O.Operator wires.now actor seat.old seat.new
+    requires gives { MayGive wires.now number queues.old (known (D.log disk.old)) failed.old }
+    ensures finished { OnOk result (EndsInto O.Operator wires.now number seat.old seat.new
         queues.old queues.new (known (D.log disk.old)) (known (D.log disk.new)) events.old.items events.new.items) }
     ensures whole { OnOk result (failed.new ≡ None) }
-    ensures part { OnErr result (EndsPart O.Operator wires.now actor seat.old events.old.items events.new.items) }
+    ensures part { OnErr result (EndsPart O.Operator wires.now number seat.old events.old.items events.new.items) }
     ensures fails { IfErr result (FailsOver queues.new (D.log disk.old) (D.log disk.new) (D.faults disk.old) (D.faults disk.new)) }
     ensures disk { LogGrows (D.log disk.old) (D.log disk.new) (D.faults disk.old) (D.faults disk.new) }
 {
@@ -113,7 +114,7 @@ pub(crate) fn finish_into<O: Operator, D: PageDisk>(
         queues,
         disk,
         events,
-        actor,
+        seat: number,
         failed,
         given,
         noted,
@@ -124,7 +125,7 @@ pub(crate) fn finish_into<O: Operator, D: PageDisk>(
         queues,
         disk,
         events,
-        actor: _,
+        seat: _,
         failed,
         given: _,
         noted: _,

@@ -73,20 +73,20 @@ pub(crate) fn send_one<D: PageDisk>(
     wires: &Wires,
     queues: &mut Queues,
     disk: &mut D,
-    actor: u32,
+    seat: u32,
     port: u32,
     item: Item,
     failed: &mut Option<RunErr>,
 ) -> Result<(), AllocError>
-    requires within { actor < length wires.now.readers.items }
-    requires may { MaySend (arcs_from wires.now actor port) queues.old (known (D.log disk.old)) item }
+    requires within { seat < length wires.now.readers.items }
+    requires may { MaySend (arcs_from wires.now seat port) queues.old (known (D.log disk.old)) item }
     requires whole { failed.old ≡ None }
-    ensures ok { OnOk result (SentWhole (arcs_from wires.now actor port) item queues.old queues.new (known (D.log disk.old)) (known (D.log disk.new)) failed.new) }
+    ensures ok { OnOk result (SentWhole (arcs_from wires.now seat port) item queues.old queues.new (known (D.log disk.old)) (known (D.log disk.new)) failed.new) }
     ensures err { OnErr result (SendErr queues.old queues.new (D.log disk.old) (D.log disk.new) (D.faults disk.old) (D.faults disk.new) failed.new) }
     ensures disk { LogGrows (D.log disk.old) (D.log disk.new) (D.faults disk.old) (D.faults disk.new) }
 {
     let bytes = room_for(&item);
-    match wires.arcs_at(actor, port) {
+    match wires.arcs_at(seat, port) {
         [] => {
             queues.spares.keep_item(item);
             Ok(())
@@ -139,22 +139,22 @@ pub(crate) fn pass_on<D: PageDisk>(
     wires: &Wires,
     queues: &mut Queues,
     disk: &mut D,
-    actor: u32,
+    seat: u32,
     port: u32,
     item: Item,
     events: &mut Vec<Event>,
     failed: &mut Option<RunErr>,
 ) -> Result<(), AllocError>
-    requires gives { MayPass wires.now actor queues.old (known (D.log disk.old)) failed.old port }
+    requires gives { MayPass wires.now seat queues.old (known (D.log disk.old)) failed.old port }
     requires sound { IsSoundItem item }
-    ensures ok { OnOk result (SentWhole (arcs_from wires.now actor port) item queues.old queues.new (known (D.log disk.old)) (known (D.log disk.new)) failed.new) }
-    ensures shown { OnOk result (IsShown wires.now actor (record { 0 = port; 1 = item } ∷ []) [] events.old.items events.new.items) }
+    ensures ok { OnOk result (SentWhole (arcs_from wires.now seat port) item queues.old queues.new (known (D.log disk.old)) (known (D.log disk.new)) failed.new) }
+    ensures shown { OnOk result (IsShown wires.now seat (record { 0 = port; 1 = item } ∷ []) [] events.old.items events.new.items) }
     ensures err { OnErr result (SendErr queues.old queues.new (D.log disk.old) (D.log disk.new) (D.faults disk.old) (D.faults disk.new) failed.new) }
     ensures silent { OnErr result (events.new.items ≡ events.old.items) }
     ensures disk { LogGrows (D.log disk.old) (D.log disk.new) (D.faults disk.old) (D.faults disk.new) }
 {
-    if wires.shown <= actor {
-        return show_one(actor - wires.shown, port, item, events);
+    if wires.shown <= seat {
+        return show_one(seat - wires.shown, port, item, events);
     }
-    send_one(wires, queues, disk, actor, port, item, failed)
+    send_one(wires, queues, disk, seat, port, item, failed)
 }

@@ -22,13 +22,13 @@ impl<O: Operator + Drop> Flow<O> {
     ghost use Rattle.sq_flow.specs.Seats.{done_at};
     ghost use Rattle.sq_flow.specs.Stepping.{Holds, MayStep, stage, StepWhole, StepErr, TrainOk};
 
-    /// An actor is finished.
-    pub(crate) fn is_done(&self, actor: u32) -> bool
-        requires actor { HasActor O.Operator self.now actor }
-        ensures { result ≡ done_at self.now.over (slice_get self.now.seats.items actor) }
+    /// The actor at a seat is finished.
+    pub(crate) fn is_done(&self, seat: u32) -> bool
+        requires actor { HasActor O.Operator self.now seat }
+        ensures { result ≡ done_at self.now.over (slice_get self.now.seats.items seat) }
     {
-        match self.seats.get(actor as usize) {
-            Some(seat) => !seat.tally.running,
+        match self.seats.get(seat as usize) {
+            Some(found) => !found.tally.running,
             None => self.over,
         }
     }
@@ -59,77 +59,77 @@ impl<O: Operator + Drop> Flow<O> {
         }
     }
 
-    /// One step of an operator.
+    /// One step of the operator at a seat.
     #[inline(always)]
     fn operator_step<D: PageDisk, L: Ledger>(
         &mut self,
         disk: &mut D,
-        actor: u32,
+        seat: u32,
         events: &mut Vec<Event>,
         steps: &mut Steps<L>,
         failed: &mut Option<RunErr>,
     ) -> Result<Did, RunErr>
         requires may { MayStep O.Operator self.old (known (D.log disk.old)) failed.old }
-        requires actor_in { actor < length self.old.seats.items }
-        requires running { done_at self.old.over (slice_get self.old.seats.items actor) ≡ false }
-        ensures ok { IfOk result (λ did. StepWhole O.Operator actor did (stage D.PageDisk self.old disk.old events.old.items steps.old)
+        requires actor_in { seat < length self.old.seats.items }
+        requires running { done_at self.old.over (slice_get self.old.seats.items seat) ≡ false }
+        ensures ok { IfOk result (λ did. StepWhole O.Operator seat did (stage D.PageDisk self.old disk.old events.old.items steps.old)
             (stage D.PageDisk self.new disk.new events.new.items steps.new) failed.new) }
         ensures err { IfErr result (StepErr O.Operator (stage D.PageDisk self.old disk.old events.old.items steps.old)
             (stage D.PageDisk self.new disk.new events.new.items steps.new)) }
     {
-        match next_of(self.wires.arcs_of(actor), &self.queues) {
+        match next_of(self.wires.arcs_of(seat), &self.queues) {
             Next::Waits => Ok(Did::Waits),
             Next::Ended => {
-                self.finish_step(disk, actor, events, failed)?;
+                self.finish_step(disk, seat, events, failed)?;
                 Ok(Did::Finished)
             }
             Next::Feed { time: _, port, arc } => {
-                self.feed_step(disk, actor, port, arc, events, steps, failed)?;
+                self.feed_step(disk, seat, port, arc, events, steps, failed)?;
                 Ok(Did::Fed)
             }
         }
     }
 
-    /// One step of an actor; none where it isn't ready.
+    /// One step of the actor at a seat; none where it isn't ready.
     #[inline(always)]
     fn one_step<D: PageDisk, L: Ledger>(
         &mut self,
         disk: &mut D,
-        actor: u32,
+        seat: u32,
         events: &mut Vec<Event>,
         steps: &mut Steps<L>,
         failed: &mut Option<RunErr>,
     ) -> Result<Did, RunErr>
         requires may { MayStep O.Operator self.old (known (D.log disk.old)) failed.old }
-        requires actor_in { actor ≤ length self.old.seats.items }
-        ensures ok { IfOk result (λ did. StepWhole O.Operator actor did (stage D.PageDisk self.old disk.old events.old.items steps.old)
+        requires actor_in { seat ≤ length self.old.seats.items }
+        ensures ok { IfOk result (λ did. StepWhole O.Operator seat did (stage D.PageDisk self.old disk.old events.old.items steps.old)
             (stage D.PageDisk self.new disk.new events.new.items steps.new) failed.new) }
         ensures err { IfErr result (StepErr O.Operator (stage D.PageDisk self.old disk.old events.old.items steps.old)
             (stage D.PageDisk self.new disk.new events.new.items steps.new)) }
     {
-        if self.is_done(actor) {
+        if self.is_done(seat) {
             return Ok(Did::Waits);
         }
-        if actor == self.wires.replay {
+        if seat == self.wires.replay {
             self.replay_step(disk, events, failed)
         } else {
-            self.operator_step(disk, actor, events, steps, failed)
+            self.operator_step(disk, seat, events, steps, failed)
         }
     }
 
-    /// Up to `train` steps of an actor, as long as it is ready.
+    /// Up to `train` steps of the actor at a seat, as long as it is ready.
     pub fn train<D: PageDisk, L: Ledger>(
         &mut self,
         disk: &mut D,
-        actor: u32,
+        seat: u32,
         train: u32,
         events: &mut Vec<Event>,
         steps: &mut Steps<L>,
     ) -> Result<Progress, RunErr>
         requires holds { Holds O.Operator self.old (known (D.log disk.old)) }
-        requires actor_in { actor ≤ length self.old.seats.items }
+        requires actor_in { seat ≤ length self.old.seats.items }
         requires some { 1 ≤ train }
-        ensures ok { IfOk result (TrainOk O.Operator actor train (stage D.PageDisk self.old disk.old events.old.items steps.old)
+        ensures ok { IfOk result (TrainOk O.Operator seat train (stage D.PageDisk self.old disk.old events.old.items steps.old)
             (stage D.PageDisk self.new disk.new events.new.items steps.new)) }
         ensures err { IfErr result (StepErr O.Operator (stage D.PageDisk self.old disk.old events.old.items steps.old)
             (stage D.PageDisk self.new disk.new events.new.items steps.new)) }
@@ -138,7 +138,7 @@ impl<O: Operator + Drop> Flow<O> {
         let mut failed = None;
         let mut fed = 0;
         'steps: while fed < train {
-            let did = match self.one_step(disk, actor, events, steps, &mut failed) {
+            let did = match self.one_step(disk, seat, events, steps, &mut failed) {
                 Ok(did) => did,
                 Err(e) => return Err(e),
             };

@@ -1,10 +1,9 @@
 -- The drop points of a network: where they are found, what stands above a box's arcs, and their own arcs.
-use Rattle.std.proofs.Common.{◌≡◌, ℕ, zero, suc, ◌+◌, ◌<◌, ◌⊎◌, eqb, Bool, true, false, cond, not, ◌&&◌, ◌||◌, List, [], ◌∷◌, length, drop, get_or, Option, Some, None, refl, ap, sym, ◌∙◌, subst, inl, inr, arith}
+use Rattle.std.proofs.Common.{◌≡◌, ℕ, zero, suc, ◌+◌, ◌<◌, ◌⊎◌, eqb, Bool, true, false, cond, not, ◌&&◌, ◌||◌, List, [], ◌∷◌, length, Option, Some, None, refl, ap, sym, ◌∙◌, subst, inl, inr, arith}
 use Rattle.std.specs.Prelude.{slice_get, is_some}
 use Rattle.std.specs.List.{filter, filter_map, list_any, cons_option}
 use Rattle.std.specs.Option.{option_map}
 use Rattle.std.proofs.lemmas.Bool.Decides.{nat_tests}
-use Rattle.std.proofs.lemmas.List.{drop_more}
 use Rattle.std.proofs.lemmas.Option.{slice_get-map}
 use Rattle.sq_words.specs.Lists.{numbers_to, contains_number}
 use Rattle.sq_graph.specs.declared.Wiring.{Wiring}
@@ -200,9 +199,3 @@ own-arc n k p there fine =
 -- a drop stands on it
 pub own-drop : (n : Network) (k : ℕ) (p : DropPoint) → slice_get (points_of n) k ≡ Some p → (o : OwnArc n p) → (d : Drop) × (drop_on_arc n o.arc ≡ Some d)
 own-drop n k p there o = first-some (λ q. contains_number (own_arcs n.wires q.at) o.arc) 0 (points_of n) k p there o.own
-
--- ---- one drop after another
-
-pub first-step : (t : DropPoint → Bool) (ps : List DropPoint) (first w : ℕ) (p : DropPoint) → w < length ps → p ≡ get_or ps w p
-    → first_drop t first (drop w ps) ≡ cond (t p) (Some (first, p)) (first_drop t (first + 1) (drop (w + 1) ps))
-first-step t ps first w p low is = ap (first_drop t first) (drop_more ps w p low ∙ ap (λ x. x ∷ drop (w + 1) ps) (sym is))

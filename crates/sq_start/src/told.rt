@@ -1,64 +1,27 @@
 //! What the actors of a network are told of the window drops above them.
 
-ghost use Rattle.std.specs.Prelude.{◌≡◌, ◌<◌, ◌-◌, ◌==◌, IfOk, IfSome, length};
+ghost use Rattle.std.specs.Prelude.{◌≡◌, ◌<◌, IfOk, length};
 ghost use Rattle.sq_graph.specs.Wires.{input_arcs_of};
 ghost use Rattle.sq_words.specs.Lists.{max_by, contains_number};
 ghost use Rattle.sq_net.specs.SoundNetworks.{IsSound};
 ghost use Rattle.sq_points.specs.Points.{points_of};
 ghost use Rattle.sq_start.specs.Starts.{IsDropAbove, AreLags, lags_below, length_above};
-ghost use Rattle.sq_points.specs.Above.{first_drop, distance_of, found_at, drop_above_box};
+ghost use Rattle.sq_points.specs.Above.{first_drop, distance_of, drop_above_box};
 
 use sq_graph::arc_of;
 use sq_net::Network;
 use sq_place::DropPoint;
+use sq_points::{above_box, above_output, distance_below};
 use std::alloc::{AllocError, Global};
-
-fn has_box(p: &DropPoint, b: u32) -> bool
-    ensures { result ≡ contains_number p.now.boxes b }
-{
-    p.boxes.as_slice().contains(&b)
-}
-
-/// The number of the first drop below which a box lies.
-fn drop_above_box(points: &[DropPoint], b: u32) -> Option<usize>
-    ensures first { first_drop (λ p. contains_number p.boxes b) 0 points.now ≡ found_at result points.now }
-    ensures inside { IfSome result (λ w. w < length points.now) }
-{
-    for (w, p) in points.iter().enumerate() {
-        if has_box(p, b) {
-            return Some(w);
-        }
-    }
-    None
-}
-
-fn has_output(p: &DropPoint, o: u32) -> bool
-    ensures { result ≡ contains_number p.now.outputs o }
-{
-    p.outputs.as_slice().contains(&o)
-}
 
 /// The length of the batches of the first drop below which an output lies, if it lies below one.
 pub(crate) fn length_above(points: &[DropPoint], o: u32) -> Option<u64>
     ensures { result ≡ length_above (first_drop (λ p. contains_number p.outputs o) 0 points.now) }
 {
-    for p in points {
-        if has_output(p, o) {
-            return Some(p.length);
-        }
+    match above_output(points, o) {
+        None => None,
+        Some(w) => Some(points[w].length),
     }
-    None
-}
-
-fn distance(p: &DropPoint, arc: u32) -> u64
-    ensures { result ≡ distance_of p.now arc }
-{
-    for r in p.reach.as_slice() {
-        if r.0 == arc {
-            return r.1;
-        }
-    }
-    0
 }
 
 fn farthest(p: &DropPoint, arcs: &[u32]) -> u64
@@ -66,7 +29,7 @@ fn farthest(p: &DropPoint, arcs: &[u32]) -> u64
 {
     let mut most = 0;
     for arc in arcs {
-        most = most.max(distance(p, *arc));
+        most = most.max(distance_below(p, *arc));
     }
     most
 }
@@ -77,7 +40,7 @@ fn lags_below(alloc: Global, p: &DropPoint, arcs: &[u32]) -> Result<Vec<u64>, Al
     let most = farthest(p, arcs);
     let mut lags = Vec::new(alloc);
     for arc in arcs {
-        lags.push(most - distance(p, *arc))?;
+        lags.push(most - distance_below(p, *arc))?;
     }
     Ok(lags)
 }
@@ -119,7 +82,7 @@ pub(crate) fn box_lags(
     ensures lags { IfOk result (λ t. AreLags n.now b (t.0).items (drop_above_box n.now b)) }
 {
     let arcs = input_arcs(alloc, n, b)?;
-    match drop_above_box(points, b) {
+    match above_box(points, b) {
         None => Ok((zeros(alloc, arcs.len())?, false)),
         Some(w) => Ok((lags_below(alloc, &points[w], &arcs)?, true)),
     }

@@ -2,6 +2,7 @@ use Rattle.std.proofs.Common.{◌≤◌}
 use Rattle.sq_flow.specs.Flows.{measure_of}
 use Rattle.sq_drive.specs.Turns.{KeepsRun, TurnsOn, moment, run_state}
 use Rattle.sq_drive.proofs.driving.step_to_end.Given as goal
+use Rattle.sq_core.specs.Runs.{flow_of}
 
 abbrev pub invariant-steps : goal.invariant-steps
 invariant-steps g l = record {
@@ -11,4 +12,4 @@ invariant-steps g l = record {
 }
 
 abbrev pub decreases-steps : goal.decreases-steps
-decreases-steps g l = measure_of l.engine.engine.flow
+decreases-steps g l = measure_of (flow_of l.engine)

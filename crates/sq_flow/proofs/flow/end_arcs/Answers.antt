@@ -18,9 +18,9 @@ loop-arc-preserved c =
       keeps = keeps-both _ _ _ inv.keeps told.keeps;
       ended = below_more _ i
           (λ arc h. let ne : arc ≢ i = omega (arith, h) in ap (λ (f : Face). f.ended) (told.others arc ne) ∙ inv.ended arc h)
-          (told.ended ∙ ap (λ b. b || (c.arc.result.now.from == c.args.actor)) (inv.later i (omega arith)) ∙ ap (λ n. (face c.args.queues.now i).ended || (n == c.args.actor)) from);
+          (told.ended ∙ ap (λ b. b || (c.arc.result.now.from == c.args.seat)) (inv.later i (omega arith)) ∙ ap (λ n. (face c.args.queues.now i).ended || (n == c.args.seat)) from);
       later = λ arc h. let ne : arc ≢ i = omega (arith, h) in ap (λ (f : Face). f.ended) (told.others arc ne) ∙ inv.later arc (omega (arith, h));
-      apart = at_or_other (λ arc. is_sent_by c.args.wires.now c.args.actor arc ≡ false → face c.end_if.new.queues arc ≡ face c.args.queues.now arc) i
-          (λ away. told.none (ap (λ n. n == c.args.actor) from ∙ away) ∙ inv.apart i away)
+      apart = at_or_other (λ arc. is_sent_by c.args.wires.now c.args.seat arc ≡ false → face c.end_if.new.queues arc ≡ face c.args.queues.now arc) i
+          (λ away. told.none (ap (λ n. n == c.args.seat) from ∙ away) ∙ inv.apart i away)
           (λ arc ne away. told.others arc ne ∙ inv.apart arc away);
     }

@@ -83,8 +83,8 @@ returns-in-Err-clause-fails g c =
     let failed = came.holds.failed in
     let fails = of-fault c.feed-done.new.out.failed.now (FailsOver _ _ _ _ _) came.fails (record { cause = tt; honest = λ known. tt }) in search rules
 
-pub returns-in-Ok-clause-done : goal.returns-in-Ok-clause-done
-returns-in-Ok-clause-done g c =
+pub returns-in-Ok-clause-whole : goal.returns-in-Ok-clause-whole
+returns-in-Ok-clause-whole g c =
     let came = came-open g.D.PageDisk.log g.D.PageDisk.faults _ _ c.requires.gives c.new-given.ensures c.new-noted.ensures c.feed-done.ensures.came in
     let failed = came.holds.failed in
-    let whole = (c.in-Ok.ensures.stays_ready.passes 0).whole in (search rules, search rules)
+    let whole = (c.in-Ok.ensures.stays_ready.passes 0).whole in search rules

@@ -8,10 +8,10 @@ use Rattle.sq_flow.proofs.engine.Engine.look_at_readers.Goals as goal
 
 pub loop-index-preserved : goal.loop-index-preserved
 loop-index-preserved g c =
-    let within : c.loop-index.index < length (readers_of c.args.self.now.flow c.args.place) = omega (arith, c.loop-index-test.true, c.count_readers-index-end.ensures) in
+    let within : c.loop-index.index < length (readers_of c.args.self.now.flow c.args.seat) = omega (arith, c.loop-index-test.true, c.count_readers-index-end.ensures) in
     let reader_is =
-    subst (λ (f : Flow g.row.O.Denot). c.reader-reader.result ≡ get_or (readers_of f c.args.place) c.loop-index.index 0) c.loop-index.invariant.flow c.reader-reader.ensures.reader
+    subst (λ (f : Flow g.row.O.Denot). c.reader-reader.result ≡ get_or (readers_of f c.args.seat) c.loop-index.index 0) c.loop-index.invariant.flow c.reader-reader.ensures.reader
     in
-    looked-next (readers_of c.args.self.now.flow c.args.place) c.loop-index.index c.reader-reader.result c.args.self.now c.loop-index.self c.look_at.new.self
-    (climbs-next (followers_of c.args.self.now.flow.wires c.args.place) (c.requires.looks.flow.shaped.followers_climb c.args.place)) within reader_is
+    looked-next (readers_of c.args.self.now.flow c.args.seat) c.loop-index.index c.reader-reader.result c.args.self.now c.loop-index.self c.look_at.new.self
+    (climbs-next (followers_of c.args.self.now.flow.wires c.args.seat) (c.requires.looks.flow.shaped.followers_climb c.args.seat)) within reader_is
     c.loop-index.invariant c.look_at.ensures

@@ -22,42 +22,42 @@ use Rattle.sq_words.proofs.Prefixes.{prefix_itself}
 
 pub returns-clause-ok : goal.returns-clause-ok
 returns-clause-ok g c =
-    let was = slice_get_read c.args.self.now.seats.items _ c.args.actor c.index.result.now refl c.requires.feeds.next.actor_in c.index.ensures in
-    let is = slice_get_read c.args.self.now.seats.items _ c.args.actor c.index_mut.result.now refl c.requires.feeds.next.actor_in c.index_mut.ensures.value in
+    let was = slice_get_read c.args.self.now.seats.items _ c.args.seat c.index.result.now refl c.requires.feeds.next.actor_in c.index.ensures in
+    let is = slice_get_read c.args.self.now.seats.items _ c.args.seat c.index_mut.result.now refl c.requires.feeds.next.actor_in c.index_mut.ensures.value in
     let took = subst (λ z. TakesItem (g.D.PageDisk.log c.args.disk.now) (g.D.PageDisk.log c.take_item.new.disk) c.args.self.now.queues c.take_item.new.queues c.arc-at.result.now c.args.arc c.args.port z.tally.place c.args.self.now.clock c.in-Ok.item)
     (same_Some c.index.result.now c.index_mut.result.now (sym was ∙ is)) c.in-Ok.ensures.ok in
     let into = c.in_ok-feed_into.ensures.fed in
-    let still = open-same c.args.self.now.seats.items c.args.actor c.index_mut.result.now c.feed_into.new.seat is into.fed.open_still in
+    let still = open-same c.args.self.now.seats.items c.args.seat c.index_mut.result.now c.feed_into.new.seat is into.fed.open_still in
     let weight = weighs c.in-Ok.item took.sound in
     let more = c.in-Ok-count_item.ensures.ok.0 in
     let low = c.in-Ok-count_item.ensures.ok.1 in
-    let after = is-after c.args.self.now c.args.actor c.feed_into.new.seat c.requires.feeds.next.actor_in in
+    let after = is-after c.args.self.now c.args.seat c.feed_into.new.seat c.requires.feeds.next.actor_in in
     record {
       step =
           record {
             moves = record {
-              stepped = fed-stepped _ c.args.self.now c.requires.may.holds.flow c.args.actor c.requires.feeds.time c.args.port c.args.arc c.arc-at.result.now c.in-Ok.item c.requires.feeds.next.actor_in c.requires.feeds.next.head c.index_mut.result.now is c.arc-at.ensures
+              stepped = fed-stepped _ c.args.self.now c.requires.may.holds.flow c.args.seat c.requires.feeds.time c.args.port c.args.arc c.arc-at.result.now c.in-Ok.item c.requires.feeds.next.actor_in c.requires.feeds.next.head c.index_mut.result.now is c.arc-at.ensures
                   _ _ c.take_item.new.queues c.requires.may.holds.together c.in-Ok.ensures.disk.later took c.requires.feeds.next.running _ c.feed_into.new.queues _ c.feed_into.new.seat _ _ c.in-Ok.ensures.others into more low;
               keeps = record { faults = le_trans c.in-Ok.ensures.disk.faults c.in_ok-feed_into.ensures.disk.faults; later = IsLater-trans _ _ _ c.in-Ok.ensures.disk.later c.in_ok-feed_into.ensures.disk.later; stay = into.onward.shown.stay };
-              touches = fed-touches _ c.args.self.now c.requires.may.holds.flow c.args.actor c.requires.feeds.time c.args.port c.args.arc c.arc-at.result.now c.in-Ok.item c.requires.feeds.next.actor_in c.requires.feeds.next.head c.index_mut.result.now is c.arc-at.ensures
+              touches = fed-touches _ c.args.self.now c.requires.may.holds.flow c.args.seat c.requires.feeds.time c.args.port c.args.arc c.arc-at.result.now c.in-Ok.item c.requires.feeds.next.actor_in c.requires.feeds.next.head c.index_mut.result.now is c.arc-at.ensures
                   _ _ c.take_item.new.queues c.requires.may.holds.together c.in-Ok.ensures.disk.later took c.requires.feeds.next.running _ c.feed_into.new.queues c.in-Ok-count_item.taken c.feed_into.new.seat _ _ c.in-Ok.ensures.others into;
-              cost = costs-fed _ c.args.self.now c.requires.may.holds.flow c.args.actor c.requires.feeds.time c.args.port c.args.arc c.arc-at.result.now c.in-Ok.item c.requires.feeds.next.actor_in c.requires.feeds.next.head c.index_mut.result.now is c.arc-at.ensures
-                  c.feed_into.new.queues c.in-Ok-count_item.taken c.feed_into.new.seat c.args.steps.now c.feed_into.new.steps into.fed.after.counted c.in_ok-feed_into.ensures.done.1;
+              cost = costs-fed _ c.args.self.now c.requires.may.holds.flow c.args.seat c.requires.feeds.time c.args.port c.args.arc c.arc-at.result.now c.in-Ok.item c.requires.feeds.next.actor_in c.requires.feeds.next.head c.index_mut.result.now is c.arc-at.ensures
+                  c.feed_into.new.queues c.in-Ok-count_item.taken c.feed_into.new.seat c.args.steps.now c.feed_into.new.steps into.fed.after.counted c.in_ok-feed_into.ensures.cost;
             };
             lowers = omega (arith, still, weight, more, low);
             took =
-                operator-took c.args.self.now _ c.args.actor 1 false c.requires.feeds.next.actor_in (seats-len c.args.self.now c.args.actor c.feed_into.new.seat)
-                (fed-sum c.args.self.now.wires (length c.args.self.now.seats.items) c.requires.may.holds.flow.shaped c.args.actor c.requires.feeds.next.actor_in c.args.self.now.queues c.take_item.new.queues c.feed_into.new.queues c.args.port c.args.arc
+                operator-took c.args.self.now _ c.args.seat 1 false c.requires.feeds.next.actor_in (seats-len c.args.self.now c.args.seat c.feed_into.new.seat)
+                (fed-sum c.args.self.now.wires (length c.args.self.now.seats.items) c.requires.may.holds.flow.shaped c.args.seat c.requires.feeds.next.actor_in c.args.self.now.queues c.take_item.new.queues c.feed_into.new.queues c.args.port c.args.arc
                 c.requires.feeds.next.head.1 took.taken.popped c.in-Ok.ensures.others.faces into.onward.sent.apart)
                 (goes-on c.args.self.now.over _ _ c.index_mut.result.now c.feed_into.new.seat is after into.fed.open_still c.requires.feeds.next.running);
             waits = tt;
           };
-      whole = c.in_ok-feed_into.ensures.done.0;
+      whole = c.in_ok-feed_into.ensures.whole;
     }
 
 pub returns-in-Err-clause-err : goal.returns-in-Err-clause-err
 returns-in-Err-clause-err g c =
-    let is = slice_get_read c.args.self.now.seats.items _ c.args.actor c.index.result.now refl c.requires.feeds.next.actor_in c.index.ensures in
+    let is = slice_get_read c.args.self.now.seats.items _ c.args.seat c.index.result.now refl c.requires.feeds.next.actor_in c.index.ensures in
     record {
       keeps = record { faults = c.in-Err.ensures.disk.faults; later = c.in-Err.ensures.disk.later; stay = prefix_itself _ };
       closes = λ table agrees. agrees;
@@ -67,19 +67,19 @@ returns-in-Err-clause-err g c =
           λ told table agrees holds.
           c.in-Err.ensures.err.honest told
           (λ item more front.
-          passes-front _ c.args.self.now c.requires.may.holds.flow c.args.actor c.requires.feeds.time c.args.port c.args.arc c.arc-at.result.now item c.requires.feeds.next.actor_in c.requires.feeds.next.head
+          passes-front _ c.args.self.now c.requires.may.holds.flow c.args.seat c.requires.feeds.time c.args.port c.args.arc c.arc-at.result.now item c.requires.feeds.next.actor_in c.requires.feeds.next.head
           c.index.result.now is c.arc-at.ensures table agrees (items_on c.args.self.now.queues (known (g.D.PageDisk.log c.args.disk.now))) holds (c.requires.may.holds.together.faces (c.in-Err.ensures.disk.later.known told)) more front);
-      cause = refused-in _ c.args.actor c.args.port c.args.arc c.index.result.now c.arc-at.result.now _ _ _ _ _ _ c.requires.feeds.next.head.1 is c.arc-at.ensures c.in-Err.ensures.err.cause;
+      cause = refused-in _ c.args.seat c.args.port c.args.arc c.index.result.now c.arc-at.result.now _ _ _ _ _ _ c.requires.feeds.next.head.1 is c.arc-at.ensures c.in-Err.ensures.err.cause;
       feed =
           fails-here _ _ _ _ _ _ _ c.requires.may.holds.flow c.requires.may.holds.together c.in-Err.ensures.disk.later
-          (refused-feed c.args.self.now (record c.args.self.now { queues = c.take_item.new.queues }) c.args.actor c.args.port c.args.arc _ _ _ _ _ _ _ _ c.requires.feeds.next.head.1 refl c.in-Err.ensures.err.cause);
+          (refused-feed c.args.self.now (record c.args.self.now { queues = c.take_item.new.queues }) c.args.seat c.args.port c.args.arc _ _ _ _ _ _ _ _ c.requires.feeds.next.head.1 refl c.in-Err.ensures.err.cause);
       cost = costs-none _ c.args.self.now c.requires.may.holds.flow (known (g.D.PageDisk.log c.args.disk.now)) (known (g.D.PageDisk.log c.take_item.new.disk)) c.args.self.now.levels c.args.steps.now c.args.steps.now refl;
       too_much = none-too-much _ _ _ _ _ _ c.in-Err.ensures.err.counts;
     }
 
 pub returns-in-Err-count_item-clause-err : goal.returns-in-Err-count_item-clause-err
 returns-in-Err-count_item-clause-err g c =
-    let is = slice_get_read c.args.self.now.seats.items _ c.args.actor c.index.result.now refl c.requires.feeds.next.actor_in c.index.ensures in
+    let is = slice_get_read c.args.self.now.seats.items _ c.args.seat c.index.result.now refl c.requires.feeds.next.actor_in c.index.ensures in
     record {
       keeps = record { faults = c.in-Ok.ensures.disk.faults; later = c.in-Ok.ensures.disk.later; stay = prefix_itself _ };
       closes = λ table agrees. agrees;
@@ -89,11 +89,11 @@ returns-in-Err-count_item-clause-err g c =
       cause = too-much-in _ _ _ _ _ _ c.in-Err-count_item.ensures.err.0;
       feed =
           fails-here _ _ _ _ _ _ _ c.requires.may.holds.flow c.requires.may.holds.together c.in-Ok.ensures.disk.later
-          (full-feed c.args.self.now (record c.args.self.now { queues = c.take_item.new.queues }) c.args.actor c.args.port c.args.arc c.in-Ok.item _ _ _ c.requires.feeds.next.head.1 refl
+          (full-feed c.args.self.now (record c.args.self.now { queues = c.take_item.new.queues }) c.args.seat c.args.port c.args.arc c.in-Ok.item _ _ _ c.requires.feeds.next.head.1 refl
           c.in-Ok.ensures.ok.taken c.in-Err-count_item.ensures.err.0 c.in-Err-count_item.ensures.err.1);
       cost = costs-none _ c.args.self.now c.requires.may.holds.flow (known (g.D.PageDisk.log c.args.disk.now)) (known (g.D.PageDisk.log c.take_item.new.disk)) c.args.self.now.levels c.args.steps.now c.args.steps.now refl;
       too_much =
-          too-much-front _ c.args.self.now c.requires.may.holds.flow c.args.actor c.requires.feeds.time c.args.port c.args.arc c.arc-at.result.now c.in-Ok.item c.requires.feeds.next.actor_in c.requires.feeds.next.head c.index.result.now is c.arc-at.ensures
+          too-much-front _ c.args.self.now c.requires.may.holds.flow c.args.seat c.requires.feeds.time c.args.port c.args.arc c.arc-at.result.now c.in-Ok.item c.requires.feeds.next.actor_in c.requires.feeds.next.head c.index.result.now is c.arc-at.ensures
           (g.D.PageDisk.log c.args.disk.now) (g.D.PageDisk.log c.take_item.new.disk) c.take_item.new.queues _ c.in-Err-count_item.e c.requires.may.holds.together c.in-Ok.ensures.disk.later c.in-Ok.ensures.ok.taken c.in-Ok.ensures.ok.others
           c.in-Err-count_item.ensures.err.1 c.in-Err-count_item.ensures.few refl refl;
     }
@@ -101,8 +101,8 @@ returns-in-Err-count_item-clause-err g c =
 pub returns-in_err-feed_into-clause-err : goal.returns-in_err-feed_into-clause-err
 returns-in_err-feed_into-clause-err g c =
     let p = err_from_is_err_and c.from_residual.result c.from_residual.ensures.1 in
-    let was = slice_get_read c.args.self.now.seats.items _ c.args.actor c.index.result.now refl c.requires.feeds.next.actor_in c.index.ensures in
-    let is = slice_get_read c.args.self.now.seats.items _ c.args.actor c.index_mut.result.now refl c.requires.feeds.next.actor_in c.index_mut.ensures.value in
+    let was = slice_get_read c.args.self.now.seats.items _ c.args.seat c.index.result.now refl c.requires.feeds.next.actor_in c.index.ensures in
+    let is = slice_get_read c.args.self.now.seats.items _ c.args.seat c.index_mut.result.now refl c.requires.feeds.next.actor_in c.index_mut.ensures.value in
     let took = subst (λ z. TakesItem (g.D.PageDisk.log c.args.disk.now) (g.D.PageDisk.log c.take_item.new.disk) c.args.self.now.queues c.take_item.new.queues c.arc-at.result.now c.args.arc c.args.port z.tally.place c.args.self.now.clock c.in-Ok.item)
     (same_Some c.index.result.now c.index_mut.result.now (sym was ∙ is)) c.in-Ok.ensures.ok in
     let part = c.in_err-feed_into.ensures.part in
@@ -110,7 +110,7 @@ returns-in_err-feed_into-clause-err g c =
     (record {
       keeps = record { faults = le_trans c.in-Ok.ensures.disk.faults c.in_err-feed_into.ensures.disk.faults; later = IsLater-trans _ _ _ c.in-Ok.ensures.disk.later c.in_err-feed_into.ensures.disk.later; stay = part.shown.stay };
       closes = λ table agrees. agrees;
-      prefix = fed-part _ c.args.self.now c.requires.may.holds.flow c.args.actor c.requires.feeds.time c.args.port c.args.arc c.arc-at.result.now c.in-Ok.item c.requires.feeds.next.actor_in c.requires.feeds.next.head c.index_mut.result.now is c.arc-at.ensures
+      prefix = fed-part _ c.args.self.now c.requires.may.holds.flow c.args.seat c.requires.feeds.time c.args.port c.args.arc c.arc-at.result.now c.in-Ok.item c.requires.feeds.next.actor_in c.requires.feeds.next.head c.index_mut.result.now is c.arc-at.ensures
           _ _ c.take_item.new.queues c.requires.may.holds.together c.in-Ok.ensures.disk.later took c.requires.feeds.next.running (known (g.D.PageDisk.log c.feed_into.new.disk)) _ _ c.in_err-feed_into.ensures.disk.later.known part;
       plans = plans-stay c.args.self.now c.args.events.now.items c.feed_into.new.events.items part.shown.plans;
       strange = λ told table agrees holds. changed-since _ _ _ c.in-Ok.ensures.disk.later.honest (c.in_err-feed_into.ensures.fails.honest told);
@@ -129,12 +129,12 @@ epochs-climb time clock (suc k) le = div-low time clock (suc k) (omega arith) le
 
 pub feed_into-requires-clause-fits : goal.feed_into-requires-clause-fits
 feed_into-requires-clause-fits g c =
-    let was = slice_get_read c.args.self.now.seats.items _ c.args.actor c.index.result.now refl c.requires.feeds.next.actor_in c.index.ensures in
-    let is = slice_get_read c.args.self.now.seats.items _ c.args.actor c.index_mut.result.now refl c.requires.feeds.next.actor_in c.index_mut.ensures.value in
+    let was = slice_get_read c.args.self.now.seats.items _ c.args.seat c.index.result.now refl c.requires.feeds.next.actor_in c.index.ensures in
+    let is = slice_get_read c.args.self.now.seats.items _ c.args.seat c.index_mut.result.now refl c.requires.feeds.next.actor_in c.index_mut.ensures.value in
     let took = subst (λ z. TakesItem (g.D.PageDisk.log c.args.disk.now) (g.D.PageDisk.log c.take_item.new.disk) c.args.self.now.queues c.take_item.new.queues c.arc-at.result.now c.args.arc c.args.port z.tally.place c.args.self.now.clock c.in-Ok.item)
     (same_Some c.index.result.now c.index_mut.result.now (sym was ∙ is)) c.in-Ok.ensures.ok in
-    let fine = seat-fine _ c.args.self.now c.requires.may.holds.flow c.args.actor c.requires.feeds.next.actor_in c.index_mut.result.now is in
-    let ran = runs _ c.args.self.now c.requires.may.holds.flow c.args.actor c.requires.feeds.next.actor_in c.index_mut.result.now is c.requires.feeds.next.running in
+    let fine = seat-fine _ c.args.self.now c.requires.may.holds.flow c.args.seat c.requires.feeds.next.actor_in c.index_mut.result.now is in
+    let ran = runs _ c.args.self.now c.requires.may.holds.flow c.args.seat c.requires.feeds.next.actor_in c.index_mut.result.now is c.requires.feeds.next.running in
     let counted = fine.counted in
     let few = fine.few in
     let weight = weighs c.in-Ok.item c.in-Ok.ensures.ok.sound in
@@ -144,7 +144,7 @@ feed_into-requires-clause-fits g c =
     let closed = c.requires.may.holds.flow.levels.0 in
     record {
       is_valid = (fine.arcs.is_valid, ran);
-      may_come = may-come _ c.args.self.now c.requires.may.holds.flow c.args.actor c.requires.feeds.time c.args.port c.args.arc c.arc-at.result.now c.in-Ok.item c.requires.feeds.next.actor_in c.requires.feeds.next.head c.index_mut.result.now is c.arc-at.ensures took.may_be_fed;
+      may_come = may-come _ c.args.self.now c.requires.may.holds.flow c.args.seat c.requires.feeds.time c.args.port c.args.arc c.arc-at.result.now c.in-Ok.item c.requires.feeds.next.actor_in c.requires.feeds.next.head c.index_mut.result.now is c.arc-at.ensures took.may_be_fed;
       is_sound = c.in-Ok.ensures.ok.sound;
       has_epoch = fine.reads (sym fine.running ∙ ran);
       has_level = omega (arith, sooner, closed);
@@ -153,12 +153,12 @@ feed_into-requires-clause-fits g c =
 
 pub feed_into-requires-clause-gives : goal.feed_into-requires-clause-gives
 feed_into-requires-clause-gives g c =
-    may-give _ c.args.self.now c.requires.may.holds.flow c.args.actor c.requires.feeds.next.actor_in c.requires.feeds.next.running _ _ _ c.in-Ok.ensures.others.size c.in-Ok.ensures.ok.ended c.in-Ok.ensures.ok.together c.requires.may.whole
+    may-give _ c.args.self.now c.requires.may.holds.flow c.args.seat c.requires.feeds.next.actor_in c.requires.feeds.next.running _ _ _ c.in-Ok.ensures.others.size c.in-Ok.ensures.ok.ended c.in-Ok.ensures.ok.together c.requires.may.whole
 
 pub take_item-requires : goal.take_item-requires
 take_item-requires g c =
     record {
-      there = subst (λ (n : ℕ). c.args.arc < n) (sym c.requires.may.holds.flow.lanes) (c.requires.may.holds.flow.shaped.arcs_in c.args.actor c.args.port c.args.arc c.requires.feeds.next.head.1);
+      there = subst (λ (n : ℕ). c.args.arc < n) (sym c.requires.may.holds.flow.lanes) (c.requires.may.holds.flow.shaped.arcs_in c.args.seat c.args.port c.args.arc c.requires.feeds.next.head.1);
       some = ap is_some c.requires.feeds.next.head.2;
       together = c.requires.may.holds.together;
     }

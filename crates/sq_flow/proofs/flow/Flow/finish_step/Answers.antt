@@ -15,29 +15,29 @@ use Rattle.sq_flow.proofs.flow.Flow.finish_step.Goals as goal
 
 pub returns-clause-ok : goal.returns-clause-ok
 returns-clause-ok g c =
-    let is = slice_get_read c.args.self.now.seats.items _ c.args.actor c.index_mut.result.now refl c.requires.ended.actor_in c.index_mut.ensures.value in
+    let is = slice_get_read c.args.self.now.seats.items _ c.args.seat c.index_mut.result.now refl c.requires.ended.actor_in c.index_mut.ensures.value in
     let into = c.in_ok-finish_into.ensures.finished in
     let ends = c.end_arcs.ensures in
-    let fine = seat-fine _ c.args.self.now c.requires.may.holds.flow c.args.actor c.requires.ended.actor_in c.index_mut.result.now is in
-    let ran = sym fine.running ∙ runs _ c.args.self.now c.requires.may.holds.flow c.args.actor c.requires.ended.actor_in c.index_mut.result.now is c.requires.ended.running in
-    let less = open-less c.args.self.now.seats.items c.args.actor c.index_mut.result.now c.finish_into.new.seat is ran into.finished.closed in
+    let fine = seat-fine _ c.args.self.now c.requires.may.holds.flow c.args.seat c.requires.ended.actor_in c.index_mut.result.now is in
+    let ran = sym fine.running ∙ runs _ c.args.self.now c.requires.may.holds.flow c.args.seat c.requires.ended.actor_in c.index_mut.result.now is c.requires.ended.running in
+    let less = open-less c.args.self.now.seats.items c.args.seat c.index_mut.result.now c.finish_into.new.seat is ran into.finished.closed in
     let counted = into.finished.after.counted in
-    let same = finished-taken _ c.args.self.now c.requires.may.holds.flow c.args.actor c.requires.ended.actor_in c.requires.ended.head c.index_mut.result.now is c.end_arcs.new.queues c.finish_into.new.seat (omega (arith, counted)) in
-    let sums = ended-sum c.args.self.now.wires (length c.args.self.now.seats.items) c.requires.may.holds.flow.shaped c.args.actor c.requires.ended.actor_in c.args.self.now.queues c.end_arcs.new.queues
+    let same = finished-taken _ c.args.self.now c.requires.may.holds.flow c.args.seat c.requires.ended.actor_in c.requires.ended.head c.index_mut.result.now is c.end_arcs.new.queues c.finish_into.new.seat (omega (arith, counted)) in
+    let sums = ended-sum c.args.self.now.wires (length c.args.self.now.seats.items) c.requires.may.holds.flow.shaped c.args.seat c.requires.ended.actor_in c.args.self.now.queues c.end_arcs.new.queues
     (λ arc away. ends.apart arc away ∙ into.onward.sent.apart arc away) in
     λ n. record {
       step =
           record {
             moves = record {
-              stepped = finished-stepped _ c.args.self.now c.requires.may.holds.flow c.args.actor c.requires.ended.actor_in c.requires.ended.head c.index_mut.result.now is _ _ c.finish_into.new.queues c.end_arcs.new.queues c.finish_into.new.seat _ _ into ends c.requires.may.holds.together c.requires.ended.running;
+              stepped = finished-stepped _ c.args.self.now c.requires.may.holds.flow c.args.seat c.requires.ended.actor_in c.requires.ended.head c.index_mut.result.now is _ _ c.finish_into.new.queues c.end_arcs.new.queues c.finish_into.new.seat _ _ into ends c.requires.may.holds.together c.requires.ended.running;
               keeps = record { faults = c.in_ok-finish_into.ensures.disk.faults; later = c.in_ok-finish_into.ensures.disk.later; stay = into.onward.shown.stay };
-              touches = finished-touches _ c.args.self.now c.requires.may.holds.flow c.args.actor c.requires.ended.actor_in c.requires.ended.head c.index_mut.result.now is _ _ c.finish_into.new.queues c.end_arcs.new.queues c.finish_into.new.seat _ _ into ends;
+              touches = finished-touches _ c.args.self.now c.requires.may.holds.flow c.args.seat c.requires.ended.actor_in c.requires.ended.head c.index_mut.result.now is _ _ c.finish_into.new.queues c.end_arcs.new.queues c.finish_into.new.seat _ _ into ends;
               cost = ap (λ k. n + k) (sym same);
             };
             lowers = omega (arith, less);
             took =
-                operator-took c.args.self.now _ c.args.actor 0 true c.requires.ended.actor_in (seats-len c.args.self.now c.args.actor c.finish_into.new.seat) (omega (arith, sums))
-                (is-closed c.args.self.now.over _ c.finish_into.new.seat (is-after c.args.self.now c.args.actor c.finish_into.new.seat c.requires.ended.actor_in) into.finished.closed);
+                operator-took c.args.self.now _ c.args.seat 0 true c.requires.ended.actor_in (seats-len c.args.self.now c.args.seat c.finish_into.new.seat) (omega (arith, sums))
+                (is-closed c.args.self.now.over _ c.finish_into.new.seat (is-after c.args.self.now c.args.seat c.finish_into.new.seat c.requires.ended.actor_in) into.finished.closed);
             waits = tt;
           };
       whole = c.in_ok-finish_into.ensures.whole;
@@ -46,13 +46,13 @@ returns-clause-ok g c =
 pub returns-in_err-finish_into-clause-err : goal.returns-in_err-finish_into-clause-err
 returns-in_err-finish_into-clause-err g c =
     let p = err_from_is_err_and c.from_residual.result c.from_residual.ensures.1 in
-    let is = slice_get_read c.args.self.now.seats.items _ c.args.actor c.index_mut.result.now refl c.requires.ended.actor_in c.index_mut.ensures.value in
+    let is = slice_get_read c.args.self.now.seats.items _ c.args.seat c.index_mut.result.now refl c.requires.ended.actor_in c.index_mut.ensures.value in
     rw (p.1, p.2)
     (λ n. record {
       keeps = record { faults = c.in_err-finish_into.ensures.disk.faults; later = c.in_err-finish_into.ensures.disk.later; stay = c.in_err-finish_into.ensures.part.shown.stay };
       closes = λ table agrees. agrees;
       prefix =
-          finished-part _ c.args.self.now c.requires.may.holds.flow c.args.actor c.requires.ended.actor_in c.requires.ended.head c.index_mut.result.now is
+          finished-part _ c.args.self.now c.requires.may.holds.flow c.args.seat c.requires.ended.actor_in c.requires.ended.head c.index_mut.result.now is
           (known (g.D.PageDisk.log c.args.disk.now)) (known (g.D.PageDisk.log c.finish_into.new.disk)) c.args.events.now.items c.finish_into.new.events.items
           c.requires.may.holds.together c.in_err-finish_into.ensures.disk.later.known c.in_err-finish_into.ensures.part c.requires.ended.running;
       plans = plans-stay c.args.self.now c.args.events.now.items c.finish_into.new.events.items c.in_err-finish_into.ensures.part.shown.plans;
@@ -67,13 +67,13 @@ returns-in_err-finish_into-clause-err g c =
 
 pub finish_into-requires-clause-gives : goal.finish_into-requires-clause-gives
 finish_into-requires-clause-gives g c =
-    may-give _ c.args.self.now c.requires.may.holds.flow c.args.actor c.requires.ended.actor_in c.requires.ended.running _ _ _ refl (λ arc. refl) c.requires.may.holds.together c.requires.may.whole
+    may-give _ c.args.self.now c.requires.may.holds.flow c.args.seat c.requires.ended.actor_in c.requires.ended.running _ _ _ refl (λ arc. refl) c.requires.may.holds.together c.requires.may.whole
 
 pub finish_into-requires-clause-is_valid : goal.finish_into-requires-clause-is_valid
 finish_into-requires-clause-is_valid g c =
-    let is = slice_get_read c.args.self.now.seats.items _ c.args.actor c.index_mut.result.now refl c.requires.ended.actor_in c.index_mut.ensures.value in
-    let fine = seat-fine _ c.args.self.now c.requires.may.holds.flow c.args.actor c.requires.ended.actor_in c.index_mut.result.now is in
-    (fine.arcs.is_valid, runs _ c.args.self.now c.requires.may.holds.flow c.args.actor c.requires.ended.actor_in c.index_mut.result.now is c.requires.ended.running)
+    let is = slice_get_read c.args.self.now.seats.items _ c.args.seat c.index_mut.result.now refl c.requires.ended.actor_in c.index_mut.ensures.value in
+    let fine = seat-fine _ c.args.self.now c.requires.may.holds.flow c.args.seat c.requires.ended.actor_in c.index_mut.result.now is in
+    (fine.arcs.is_valid, runs _ c.args.self.now c.requires.may.holds.flow c.args.seat c.requires.ended.actor_in c.index_mut.result.now is c.requires.ended.running)
 
 pub end_arcs-requires-clause-few : goal.end_arcs-requires-clause-few
 end_arcs-requires-clause-few g c = c.requires.may.holds.flow.shaped.few_arcs

@@ -8,8 +8,8 @@ use Rattle.sq_flow.proofs.flow.Flow.operator_step.Goals as goal
 
 pub returns-in-Waits-clause-ok : goal.returns-in-Waits-clause-ok
 returns-in-Waits-clause-ok g c =
-    step-waits _ c.args.actor _ _ c.requires.may
-    (waits-not-ready c.args.self.now c.args.actor (rw c.arcs_of.ensures (rw (← c.deref.ensures.value) c.in-Waits.ensures)))
+    step-waits _ c.args.seat _ _ c.requires.may
+    (waits-not-ready c.args.self.now c.args.seat (rw c.arcs_of.ensures (rw (← c.deref.ensures.value) c.in-Waits.ensures)))
 
 pub returns-in_ok-finish_step-in-Ended-clause-ok : goal.returns-in_ok-finish_step-in-Ended-clause-ok
 returns-in_ok-finish_step-in-Ended-clause-ok g c = c.in_ok-finish_step-in-Ended.ensures.ok c.args.steps.now
@@ -35,7 +35,7 @@ arcs_of-requires g c = omega (arith, c.requires.actor_in, c.requires.may.holds.f
 pub next_of-requires-clause-arcs_in : goal.next_of-requires-clause-arcs_in
 next_of-requires-clause-arcs_in g c = λ port arc is.
     subst (λ (n : ℕ). arc < n) (sym c.requires.may.holds.flow.lanes)
-    (c.requires.may.holds.flow.shaped.arcs_in c.args.actor port arc (ap (λ l. slice_get l port) (ap numbers_in c.arcs_of.ensures ∙ sym c.deref.ensures.value) ∙ is))
+    (c.requires.may.holds.flow.shaped.arcs_in c.args.seat port arc (ap (λ l. slice_get l port) (ap numbers_in c.arcs_of.ensures ∙ sym c.deref.ensures.value) ∙ is))
 
 pub next_of-requires-clause-ports : goal.next_of-requires-clause-ports
-next_of-requires-clause-ports g c = subst (λ (l : List ℕ). length l < 2 ^ 32) (ap numbers_in c.arcs_of.ensures ∙ sym c.deref.ensures.value) (c.requires.may.holds.flow.shaped.ports c.args.actor)
+next_of-requires-clause-ports g c = subst (λ (l : List ℕ). length l < 2 ^ 32) (ap numbers_in c.arcs_of.ensures ∙ sym c.deref.ensures.value) (c.requires.may.holds.flow.shaped.ports c.args.seat)

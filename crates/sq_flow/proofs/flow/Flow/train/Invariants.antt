@@ -8,7 +8,7 @@ abbrev pub invariant-steps : goal.invariant-steps
 invariant-steps g l =
     let disk = g.D.PageDisk in
     record {
-      under : Underway g.O.Operator l.actor l.fed (stage disk l.fn.self l.fn.disk l.fn.events.items l.fn.steps) (stage disk l.self l.disk l.events.items l.steps);
+      under : Underway g.O.Operator l.seat l.fed (stage disk l.fn.self l.fn.disk l.fn.events.items l.fn.steps) (stage disk l.self l.disk l.events.items l.steps);
       whole : l.failed ≡ None;
       few : l.fed ≤ l.train;
     }

@@ -6,7 +6,7 @@ use Rattle.sq_flow.proofs.wires.Wires.arcs_at.Goals as goal
 
 pub returns-then-port-len : goal.returns-then-port-len
 returns-then-port-len c =
-    let row = slice_get_read c.args.self.now.readers.items _ c.args.actor c.index-rows.result.now refl c.requires c.index-rows.ensures in
+    let row = slice_get_read c.args.self.now.readers.items _ c.args.seat c.index-rows.result.now refl c.requires c.index-rows.ensures in
     let low : c.args.port < length c.index-rows.result.now.items = omega (arith, c.if-port-len.true, c.len.ensures, c.index-rows.result.now.ok.0) in
     let here = slice_get_read c.index-rows.result.now.items _ c.args.port c.index.result.now refl low c.index.ensures in
     c.deref.ensures.value ∙ sym (ap (λ o. numbers_in (slice_get (rows_in o) c.args.port)) row ∙ ap numbers_in here)
@@ -14,6 +14,6 @@ returns-then-port-len c =
 -- nothing comes from the ports beyond the last
 pub returns : goal.returns
 returns c =
-    let row = slice_get_read c.args.self.now.readers.items _ c.args.actor c.index-rows.result.now refl c.requires c.index-rows.ensures in
+    let row = slice_get_read c.args.self.now.readers.items _ c.args.seat c.index-rows.result.now refl c.requires c.index-rows.ensures in
     let past : length c.index-rows.result.now.items ≤ c.args.port = omega (arith, c.if-port-len.false, c.len.ensures, c.index-rows.result.now.ok.0) in
     sym (ap (λ o. numbers_in (slice_get (rows_in o) c.args.port)) row ∙ ap numbers_in (slice_get_past c.index-rows.result.now.items c.args.port past))
