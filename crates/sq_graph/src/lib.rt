@@ -181,7 +181,7 @@ fn least_on_cycle(alloc: Global, w: &Wiring, givers: &[Option<u32>]) -> Result<u
 }
 
 /// Why boxes have no order.
-#[derive(Clone, Copy, PartialEq, Eq, Drop)]
+#[derive(Clone, Copy, Debug, PartialEq, Eq, Drop)]
 pub enum OrderErr {
     /// Box `at` reaches itself by arcs, and no box of a lower number does.
     Cycle { at: u32 },

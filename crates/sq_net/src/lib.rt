@@ -147,7 +147,7 @@ impl Network {
 }
 
 /// A part of a network file.
-#[derive(Clone, Copy, PartialEq, Eq)]
+#[derive(Clone, Copy, Debug, PartialEq, Eq)]
 pub enum Part {
     /// The file as a whole.
     Top,
@@ -160,7 +160,7 @@ pub enum Part {
 
 /// Where a rule is broken: the part, its number, and a place in a list of it. Both count from 0, and where a rule names
 /// no list the item is 0.
-#[derive(Clone, Copy, PartialEq, Eq)]
+#[derive(Clone, Copy, Debug, PartialEq, Eq)]
 pub struct Place {
     pub part: Part,
     pub number: u32,
@@ -169,7 +169,7 @@ pub struct Place {
 
 /// Why a file is no network: the first broken rule, in this order but for the rules on boxes, which come box by box in
 /// the order in which the boxes are typed.
-#[derive(Clone, Copy, PartialEq, Eq)]
+#[derive(Clone, Copy, Debug, PartialEq, Eq)]
 pub enum NetErr {
     /// The bytes are no TOML document.
     Toml,

@@ -43,7 +43,7 @@ pub struct DropPoint {
 }
 
 /// Why there are no drop points: a drop's batch is too long, or what is needed of it too wide.
-#[derive(Clone, Copy, PartialEq, Eq, Drop)]
+#[derive(Clone, Copy, Debug, PartialEq, Eq, Drop)]
 pub enum PlaceErr {
     /// The batch of this drop is longer than 2^34 ticks.
     LongBatch { drop: u32 },

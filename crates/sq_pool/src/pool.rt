@@ -11,7 +11,7 @@ use std::alloc::{AllocError, Global};
 use std::marker::Model;
 
 /// Why a pool has failed.
-#[derive(Drop)]
+#[derive(Debug, Drop)]
 pub enum PoolErr {
     /// The disk had a fault.
     Disk,

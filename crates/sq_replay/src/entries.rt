@@ -11,7 +11,7 @@ use sq_value::read_short_number;
 use std::alloc::{AllocError, Global};
 
 /// Why a capacity or picks file isn't read.
-#[derive(Clone, Copy, PartialEq, Eq, Drop)]
+#[derive(Clone, Copy, Debug, PartialEq, Eq, Drop)]
 pub enum LineErr {
     /// The first bad line, counted from 1 among all lines.
     Bad { line: u32 },

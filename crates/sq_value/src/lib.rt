@@ -224,7 +224,7 @@ impl Txt {
 }
 
 /// The kind of a field.
-#[derive(Clone, Copy, PartialEq, Eq, Drop)]
+#[derive(Clone, Copy, Debug, PartialEq, Eq, Drop)]
 pub enum Kind {
     Int,
     Bool,
