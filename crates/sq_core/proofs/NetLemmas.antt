@@ -22,7 +22,7 @@ use Rattle.sq_points.specs.Points.{points_of}
 use Rattle.sq_points.proofs.Bounds.{at_least, takes_all}
 use Rattle.sq_model.specs.GivenLevels.{IsAt}
 use Rattle.sq_below.specs.Actors.{Actor, Sources, Box, WindowDrop, OutputGate, arc_from}
-use Rattle.sq_start.specs.Numbers.{IsThere, ops_of, number_of, actor_at, place_stream, reads_of, window_drop_reads}
+use Rattle.sq_start.specs.Numbers.{IsThere, ops_of, seat_of_actor, actor_at, place_stream, reads_of, window_drop_reads}
 use Rattle.sq_start.proofs.NumberLemmas.{which}
 use Rattle.sq_start.specs.Nets.{ComesFrom, AllCome, Joins}
 use Rattle.sq_start.specs.Arrivals.{arcs_to, point_streams, streams_to, TakesArcs, MarksAreTaken, TuplesAreTaken}
@@ -190,7 +190,7 @@ abbrev Same : Network → List (Actor × ℕ) → List Feed → Type 0
 Same n [] [] = Unit {0}
 Same n [] (f ∷ fs) = ⊥
 Same n (y ∷ ys) [] = ⊥
-Same n (y ∷ ys) (f ∷ fs) = (f.from ≡ number_of n y.0) × (f.port ≡ y.1) × Same n ys fs
+Same n (y ∷ ys) (f ∷ fs) = (f.from ≡ seat_of_actor n y.0) × (f.port ≡ y.1) × Same n ys fs
 
 rows-same : (n : Network) (x : Actor) → Same n (reads_of n x) (feeds_row n x)
 rows-same n Sources = _
@@ -206,7 +206,7 @@ rows-same n (WindowDrop w) = by (slice_get (points_of n) w)
     by (Some p) = (refl, refl, _)
 rows-same n (OutputGate o) = (refl, refl, _)
 
-comes : (n : Network) (w : Wires) (y : Actor × ℕ) (f : Feed) (arc : ℕ) (o : Option Arc) → slice_get w.arcs.items arc ≡ o → f.from ≡ number_of n y.0 → f.port ≡ y.1 → IsOf o (Some f) → ComesFrom n (net_of w) y arc
+comes : (n : Network) (w : Wires) (y : Actor × ℕ) (f : Feed) (arc : ℕ) (o : Option Arc) → slice_get w.arcs.items arc ≡ o → f.from ≡ seat_of_actor n y.0 → f.port ≡ y.1 → IsOf o (Some f) → ComesFrom n (net_of w) y arc
 comes n w y f arc None is from port of = absurd of
 comes n w y f arc (Some a) is from port of = (ap from_of is ∙ of.0 ∙ from, ap arc_port is ∙ of.1 ∙ port)
 

@@ -56,7 +56,7 @@ use Rattle.sq_flow.specs.Readiness.{stands, IsReady}
 use Rattle.sq_flow.specs.Engines.{seat_number, IsEngine}
 use Rattle.sq_flow.specs.Wiring.{net_of, arcs_read, IsOwn}
 use Rattle.sq_flow.proofs.DoneLemmas.{sums-agree}
-use Rattle.sq_start.specs.Numbers.{IsThere, first_output, ops_of, number_of, actor_at, reads_of}
+use Rattle.sq_start.specs.Numbers.{IsThere, first_output, ops_of, seat_of_actor, actor_at, reads_of}
 use Rattle.sq_start.specs.Nets.{ComesFrom, AllCome, fed_to, decided_by, drop_decisions, count_fed}
 use Rattle.sq_start.specs.Starts.{IsReadReplay}
 use Rattle.sq_start.specs.NewOperators.{IsStarted, late_of_actor}
@@ -215,13 +215,13 @@ comes-at n net (x ∷ givers) (arc ∷ arcs) come (suc port) giver is = comes-at
 
 -- of a stream all is left
 module _ (r : Replay) (net : Net) (w : Holding) (order : List ℕ) (read : IsReadReplay r) (new : IsNew r net w) (wired : IsLaidOut net order) (starts : StartsAs r net w order) where
-  all-of : (giver : below.Actor × ℕ) → IsThere r.network giver.0 → coming net w order (number_of r.network giver.0) giver.1 ≡ stream_of r giver
+  all-of : (giver : below.Actor × ℕ) → IsThere r.network giver.0 → coming net w order (seat_of_actor r.network giver.0) giver.1 ≡ stream_of r giver
   all-of (x, port) there =
-      elim (cases_lt (number_of r.network x) (ops_of r.network)) [
-        | inl low ↦ starts.streams (number_of r.network x) low port ∙ ap (λ y. stream_of r (y, port)) (there-at r.network x there).1
+      elim (cases_lt (seat_of_actor r.network x) (ops_of r.network)) [
+        | inl low ↦ starts.streams (seat_of_actor r.network x) low port ∙ ap (λ y. stream_of r (y, port)) (there-at r.network x there).1
         | inr past ↦ (
             let most = (there-at r.network x there).0 in
-            let is : number_of r.network x ≡ ops_of r.network = omega (arith, past, most) in
+            let is : seat_of_actor r.network x ≡ ops_of r.network = omega (arith, past, most) in
             let replay : x ≡ below.Sources = sym (there-at r.network x there).1 ∙ ap (actor_at r.network) is ∙ replay-at r.network in
             ap (λ k. coming net w order k port) (is ∙ sym new.joins.replay) ∙ coming-sources net w order wired port ∙ new.recorded port ∙ ap (λ y. stream_of r (y, port)) (sym replay))
       ]
@@ -235,7 +235,7 @@ module _ (r : Replay) (net : Net) (w : Holding) (order : List ℕ) (read : IsRea
         at.0,
         at.1,
         ap (λ l. l ++ coming net w order (net.from at.0) (net.port at.0)) (new.empty at.0)
-            ∙ ap (λ k. coming net w order k (net.port at.0)) at.2.0 ∙ ap (coming net w order (number_of r.network giver.0)) at.2.1 ∙ all-of giver there,
+            ∙ ap (λ k. coming net w order k (net.port at.0)) at.2.0 ∙ ap (coming net w order (seat_of_actor r.network giver.0)) at.2.1 ∙ all-of giver there,
       )
 
 -- ---- a new flow

@@ -22,7 +22,7 @@ use Rattle.sq_net.proofs.StreamLemmas.{boxes_count}
 use Rattle.sq_points.specs.Points.{points_of, drops_in}
 use Rattle.sq_below.specs.ArcContents.{Drop}
 use Rattle.sq_below.specs.Actors.{giver, from_drop}
-use Rattle.sq_start.specs.Numbers.{IsThere, first_output, ops_of, number_of, actor_at, place_stream}
+use Rattle.sq_start.specs.Numbers.{IsThere, first_output, ops_of, seat_of_actor, actor_at, place_stream}
 use Rattle.sq_start.proofs.NumberLemmas.{box-at, drop-at, giver-there, output-at, which}
 use Rattle.sq_start.proofs.PointLemmas.{first-found}
 use Rattle.sq_core.specs.declared.join.Feed.{Feed}
@@ -114,7 +114,7 @@ module _ (n : Network) (sound : IsSound n) (feeds : List (Vec Feed Global)) (row
   rest-here k p ps rest = (let e : k ≡ k + 0 = omega arith in ap (slice_get (points_of n)) e ∙ sym (rest 0))
 
   giver-known : (done : List ℕ) (box : Option ℕ) → ((b : ℕ) → same_box (Some b) box ≡ true → known_by ops done b ≡ true)
-      → (p : Option Producer) → same_box (box_of p) box ≡ true → known_by ops done (number_of n (giver p).0) ≡ true
+      → (p : Option Producer) → same_box (box_of p) box ≡ true → known_by ops done (seat_of_actor n (giver p).0) ≡ true
   giver-known done box knows None h = known-replay ops done
   giver-known done box knows (Some (Source s)) h = known-replay ops done
   giver-known done box knows (Some (Port b q)) h = knows b h
@@ -202,7 +202,7 @@ module _ (n : Network) (sound : IsSound n) (feeds : List (Vec Feed Global)) (row
       by (Some b) h = h
 
   module _ (front done : List ℕ) (placed : Placed front done) where
-    given-known : (p : Option Producer) → is_ready front (box_of p) ≡ true → known_by ops done (number_of n (giver p).0) ≡ true
+    given-known : (p : Option Producer) → is_ready front (box_of p) ≡ true → known_by ops done (seat_of_actor n (giver p).0) ≡ true
     given-known None h = known-replay ops done
     given-known (Some (Source k)) h = known-replay ops done
     given-known (Some (Port b q)) h = placed.boxes b h
@@ -210,7 +210,7 @@ module _ (n : Network) (sound : IsSound n) (feeds : List (Vec Feed Global)) (row
     arc-known : (a : ℕ) → is_ready front (box_of (producer_of n.wires (stream_on n.wires a))) ≡ true → known_by ops done (arc_feed n a).from ≡ true
     arc-known a ready = by (drop_on_arc n a) refl
       where
-        by : (o : Option Drop) → drop_on_arc n a ≡ o → known_by ops done (number_of n (from_drop n o a).0) ≡ true
+        by : (o : Option Drop) → drop_on_arc n a ≡ o → known_by ops done (seat_of_actor n (from_drop n o a).0) ≡ true
         by None is = given-known (producer_of n.wires (stream_on n.wires a)) ready
         by (Some d) is =
             let f = first-found (λ p. contains_number (own_arcs n.wires p.at) a) 0 (points_of n) d is in

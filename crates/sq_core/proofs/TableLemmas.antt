@@ -31,7 +31,7 @@ use Rattle.sq_model.specs.GivenLevels.{IsAt}
 use Rattle.sq_model.proofs.PlacedLemmas.{placed_of}
 use Rattle.sq_below.specs.ArcContents.{Drop}
 use Rattle.sq_below.specs.Actors.{Actor, Sources, Box, WindowDrop, OutputGate, giver, from_drop, arc_from}
-use Rattle.sq_start.specs.Numbers.{IsThere, first_output, ops_of, number_of, actor_at, place_stream}
+use Rattle.sq_start.specs.Numbers.{IsThere, first_output, ops_of, seat_of_actor, actor_at, place_stream}
 use Rattle.sq_start.proofs.NumberLemmas.{box-at, drop-at, output-at, giver-there, from-there}
 use Rattle.sq_flow.specs.declared.wires.Wires.{Wires}
 use Rattle.sq_flow.specs.Wiring.{arcs_read, arc_wired as wire_at}
@@ -141,7 +141,7 @@ module _ (n : Network) (sound : IsSound n) where
       by (Some p) = omega arith
   few-in-row (OutputGate o) = omega arith
 
-  giver-gives : (s : ℕ) → IsGiver (first_output n) (ops_of n) (number_of n (giver (producer_of n.wires s)).0)
+  giver-gives : (s : ℕ) → IsGiver (first_output n) (ops_of n) (seat_of_actor n (giver (producer_of n.wires s)).0)
   giver-gives s = by (giver (producer_of n.wires s)).0 (giver-there n sound s) (never-shown (producer_of n.wires s))
     where
       never-shown : (p : Option Producer) → IsNoOutput (giver p).0
@@ -149,16 +149,16 @@ module _ (n : Network) (sound : IsSound n) where
       never-shown (Some (Source s)) = _
       never-shown (Some (Port b q)) = _
 
-      by : (x : Actor) → IsThere n x → IsNoOutput x → IsGiver (first_output n) (ops_of n) (number_of n x)
+      by : (x : Actor) → IsThere n x → IsNoOutput x → IsGiver (first_output n) (ops_of n) (seat_of_actor n x)
       by Sources t away = inr refl
       by (Box b) t away = inl (omega (arith, t))
       by (WindowDrop w) t away = inl (omega (arith, t))
       by (OutputGate o) t away = absurd away
 
-  from-gives : (a : ℕ) → IsGiver (first_output n) (ops_of n) (number_of n (arc_from n a).0)
+  from-gives : (a : ℕ) → IsGiver (first_output n) (ops_of n) (seat_of_actor n (arc_from n a).0)
   from-gives a = by (drop_on_arc n a) (from-there n sound a)
     where
-      by : (o : Option Drop) → IsThere n (from_drop n o a).0 → IsGiver (first_output n) (ops_of n) (number_of n (from_drop n o a).0)
+      by : (o : Option Drop) → IsThere n (from_drop n o a).0 → IsGiver (first_output n) (ops_of n) (seat_of_actor n (from_drop n o a).0)
       by None t = giver-gives (stream_on n.wires a)
       by (Some d) t = inl (omega (arith, t))
 

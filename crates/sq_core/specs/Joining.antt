@@ -47,7 +47,7 @@ pub record IsActorOrder (ops : ℕ) (feeds : List (Vec Feed Global)) (order : Li
   pub listed : (actor : ℕ) → known_by ops order actor ≡ true → actor < ops + 1
   pub ordered : (actor : ℕ) → actor < ops → known_by ops order actor ≡ true
 
--- a table that can be joined, and an order of its operators
+-- a table that can be joined, the drops from the first number on and the outputs from the second, and an order of its operators
 pub record CanJoin (drops outputs : ℕ) (table : List (Vec Feed Global)) (list : List ℕ) : Type 0 where
   pub feeds : AreFeeds outputs table
   pub sheds : drops ≤ outputs
@@ -74,7 +74,7 @@ pub record JoinsAll (drops outputs : ℕ) (table : List (Vec Feed Global)) (list
   pub shown : wires.shown ≡ outputs
   pub order : wires.order ≡ list
 
--- a number is added to a row
+-- a number is added to a row, and the other rows stay
 abbrev pub AddsTo : ℕ → ℕ → List (Vec ℕ Global) → List (Vec ℕ Global) → Type 0
 AddsTo row at was is = (r : ℕ) → numbers_in (slice_get is r) ≡ (if r == row then numbers_in (slice_get was r) ++ at ∷ [] else numbers_in (slice_get was r))
 
@@ -95,8 +95,8 @@ pub record AddsIn (to place at : ℕ) (was is : List (Vec (Vec ℕ Global) Globa
 abbrev pub once_more : ℕ → List ℕ → List ℕ
 once_more x xs = if contains_number xs x then xs else xs ++ x ∷ []
 
--- an actor has this follower, once, and there are as many actors as before
-pub record HasFollower (actor follower : ℕ) (was is : List (Vec ℕ Global)) : Type 0 where
+-- a follower is noted of an actor where it isn't yet, and of no other; there are as many actors as before
+pub record AddsFollower (actor follower : ℕ) (was is : List (Vec ℕ Global)) : Type 0 where
   pub len : length is ≡ length was
   pub added : (r : ℕ) → numbers_in (slice_get is r) ≡ (if r == actor then once_more follower (numbers_in (slice_get was r)) else numbers_in (slice_get was r))
 
@@ -113,7 +113,7 @@ pub record AddsArc (arc : Arc) (was is : Wires) : Type 0 where
   pub fixed : Fixed was is
   pub inputs : AddsAt arc.to (length was.arcs.items) was.inputs.items is.inputs.items
   pub readers : AddsIn arc.from arc.port (length was.arcs.items) was.readers.items is.readers.items
-  pub followers : HasFollower arc.from arc.to was.followers.items is.followers.items
+  pub followers : AddsFollower arc.from arc.to was.followers.items is.followers.items
 
 -- the operators before this one are joined, and of this one so many ports
 pub record IsJoining (shown : ℕ) (feeds : List (Vec Feed Global)) (at place : ℕ) (wires : Wires) : Type 0 where

@@ -13,16 +13,17 @@ use Rattle.sq_start.specs.NewOperators.{IsStarted}
 abbrev pub none_fed : Tally
 none_fed = record { place = Start; taken = 0; running = true }
 
--- each actor is in its seat, as far as there are seats, and nothing was fed to it
-pub record IsSeated (n : Network) (number actor : ℕ) (seat : Seat operator.Actor) : Type 0 where
-  pub started : IsStarted n number (actor_at n actor) seat.op
+-- this actor is in its seat, newly made, and nothing was fed to it
+pub record IsSeated (n : Network) (seed actor : ℕ) (seat : Seat operator.Actor) : Type 0 where
+  pub started : IsStarted n seed (actor_at n actor) seat.op
   pub none : seat.tally ≡ none_fed
   pub fed_none : seat.fed ≡ unfed
 
+-- so is each, as far as there are seats
 abbrev pub AllSeated : Network → ℕ → List (Seat operator.Actor) → Type 0
-AllSeated n number seats = (actor : ℕ) (seat : Seat operator.Actor) → slice_get seats actor ≡ Some seat → IsSeated n number actor seat
+AllSeated n seed seats = (actor : ℕ) (seat : Seat operator.Actor) → slice_get seats actor ≡ Some seat → IsSeated n seed actor seat
 
 -- a seat for each operator of a network
-pub record AreNewSeats (n : Network) (number : ℕ) (seats : List (Seat operator.Actor)) : Type 0 where
+pub record AreNewSeats (n : Network) (seed : ℕ) (seats : List (Seat operator.Actor)) : Type 0 where
   pub count : length seats ≡ ops_of n
-  pub seated : AllSeated n number seats
+  pub seated : AllSeated n seed seats

@@ -47,9 +47,11 @@ use Rattle.sq_core.specs.Answers.{Plans, KeepsAnswers}
 abbrev pub flow_of : Engine → Flow Actor
 flow_of e = e.engine.flow
 
+-- the actors that are ready, as numbers, in the order in which they were listed
 abbrev pub ready_of : Engine → List ℕ
 ready_of e = e.engine.ready.list
 
+-- a step failed
 abbrev pub has_failed : Engine → Bool
 has_failed e = e.engine.failed
 
@@ -124,7 +126,7 @@ pub record Stopped (honest : Bool) (r : Replay) (history : List Event) (begun st
 abbrev pub tuples_fed : Engine → ℕ → ℕ → List Tuple
 tuples_fed engine at port = tuples_in (fed_on (flow_of engine) at port)
 
--- this holds of the items that stand on the arcs, by whatever pages the disk has, at each table of levels at which they are what the run has come to
+-- this holds of the items that stand on the arcs, by whatever pages the disk has, at each table of levels at which the flow holds them
 abbrev pub WhereHeld : Engine → ((ℕ → ℕ → ℕ) → (ℕ → List Item) → Type 0) → Type 0
 WhereHeld e P = (pages : Option Pages) (table : ℕ → ℕ → ℕ) → HoldsItems actors table (items_in (flow_of e) pages) (flow_of e) → P table (items_in (flow_of e) pages)
 

@@ -15,7 +15,7 @@ use Rattle.sq_net.specs.Streams.{columns_of_stream}
 use Rattle.sq_points.specs.Points.{points_of}
 use Rattle.sq_model.specs.GivenLevels.{IsAt}
 use Rattle.sq_below.specs.Actors.{Actor, Sources, Box, WindowDrop, OutputGate, giver, arc_from}
-use Rattle.sq_start.specs.Numbers.{first_output, ops_of, number_of, actor_at, place_stream}
+use Rattle.sq_start.specs.Numbers.{first_output, ops_of, seat_of_actor, actor_at, place_stream}
 use Rattle.sq_flow.specs.declared.wires.Wires.{Wires}
 use Rattle.sq_flow.specs.Wiring.{arcs_read, arc_wired, IsShaped}
 use Rattle.sq_core.specs.declared.join.Feed.{Feed}
@@ -42,7 +42,7 @@ pub record IsTopology (it : Topology) : Type 0 where
 
 -- the feed that takes a stream from a port of an actor
 abbrev pub feed_from : Network → ℕ → Bool → Actor × ℕ → Feed
-feed_from n stream marked x = record { from = number_of n x.0; port = x.1; kinds = kinds_on (columns_of_stream n stream); marked = marked }
+feed_from n stream marked x = record { from = seat_of_actor n x.0; port = x.1; kinds = kinds_on (columns_of_stream n stream); marked = marked }
 
 -- the feed of an arc: it comes from the drop that stands on it, or else from what gives its stream; below a drop its
 -- marks come on it

@@ -191,7 +191,8 @@ impl Engine {
         self.nothing_left();
     }
 
-    /// Where all actors are finished nothing is pending, no line, decision, item or plan, whatever was shown before.
+    /// Where all actors are finished nothing is pending, no line, decision, item or plan, whatever was shown before; and each operator was fed, and
+    /// has lost, as many tuples as it will have been fed and have lost at the end.
     pub fn nothing_left(&self)
         requires sound { IsSoundEngine self.now }
         requires done { AllDone (flow_of self.now) }

@@ -2,7 +2,7 @@
 
 ghost use Rattle.std.specs.Prelude.{◌≡◌, ◌<◌, ◌≤◌, ◌^◌, ◌+◌, ℕ, [], length, slice_get, IfOk, OnOk};
 ghost use Rattle.sq_flow.specs.Wiring.{numbers_in, rows_in};
-ghost use Rattle.sq_core.specs.Joining.{AddsArc, AddsAt, AddsIn, AddsTo, AreFeeds, CanJoin, Fixed, HasFollower, IsJoining, JoinsAll};
+ghost use Rattle.sq_core.specs.Joining.{AddsArc, AddsAt, AddsFollower, AddsIn, AddsTo, AreFeeds, CanJoin, Fixed, IsJoining, JoinsAll};
 
 use sq_flow::{Arc, Wires};
 use sq_value::{Kind, ListOf};
@@ -73,7 +73,7 @@ fn add_in(
 /// Notes that an operator reads from an actor.
 fn add_follower(followers: &mut Vec<Vec<u32>>, actor: u32, follower: u32) -> Result<(), AllocError>
     requires { actor < length followers.old.items }
-    ensures { OnOk result (HasFollower actor follower followers.old.items followers.new.items) }
+    ensures { OnOk result (AddsFollower actor follower followers.old.items followers.new.items) }
 {
     if followers[actor as usize].contains(&follower) {
         return Ok(());

@@ -36,6 +36,7 @@ pub record RunState : Type 0 where
   pub faults : ℕ
   pub steps : ℕ
 
+-- what it is, by what the disk tells
 abbrev pub run_state : {D : Type 0} → DiskGhosts D → Engine → D → ℕ → RunState
 run_state tells engine disk steps = record { engine = engine; log = tells.log disk; faults = tells.faults disk; steps = steps }
 
@@ -45,6 +46,7 @@ pub record Moment (A O : Type 0) : Type 0 where
   pub audience : A
   pub out : O
 
+-- what it is, by what the disk tells
 abbrev pub moment : {D A O : Type 0} → DiskGhosts D → Engine → D → ℕ → A → O → Moment A O
 moment tells engine disk steps audience out = record { run = run_state tells engine disk steps; audience = audience; out = out }
 
@@ -72,7 +74,8 @@ pub record GoesOn (n : Network) (before after : RunState) (events : List Event) 
       → IsRun r (known before.log) before.engine history begun before.steps → IsRun r (known after.log) after.engine (history ++ events) begun after.steps
   pub sound : IsSoundEngine after.engine
 
--- they lead on to the end of the run: these events show exactly what was pending, and make the history of any run the whole answer
+-- they lead on to the end of the run: these events show exactly what was pending, and where the disk is known they make the history of any run
+-- that it is the whole answer
 pub record EndsOn (before after : RunState) (events : List Event) : Type 0 where
   pub on : GoesOn before.engine.network before after events
   pub done : AllDone (flow_of after.engine)
@@ -107,15 +110,16 @@ pub record RunsOut {A O : Type 0} (m : Ghosts A O) (before after : Moment A O) :
       → m.whole from after.audience after.out before.run.engine.network (history ++ events)
   pub ready : m.ready after.audience before.run.engine.network
 
--- turns of which the last failed: a beginning went out of the events of those that ended Ok, and the output failed by the count of its faults
+-- turns of which the last failed, by no refusal: a beginning went out of the events of those that ended Ok, and the output is at fault only where
+-- the count of its faults rose
 pub record TurnFails {A O : Type 0} (m : Ghosts A O) (n : Network) (before after : Moment A O) (result : Status) : Type 0 where
   pub events : List Event
   pub fails : FailsOn n before.run after.run events result
   pub begun : (from : O) (history : List Event) → m.shown from before.audience before.out n history → m.begun from after.out n (history ++ events)
   pub cut : IsCutShort (m.faults before.out) (m.faults after.out) result
 
--- a run came to its end, and the lines of what it showed were written: of any run that it is they make the history the whole answer, and
--- where it is none they are those of what was pending
+-- a run came to its end, and the lines of what it showed were written: where the disk is known they make the history of any run that it is the
+-- whole answer; and, of whatever engine, they are those of what was pending
 pub record DriveEnds (before after : RunState) (was is : Option (List ℕ)) : Type 0 where
   pub ended : HasEnded (known before.log) (known after.log) before.engine after.engine
   pub driven : (r : Replay) (history : List Event) (begun : ℕ) → Tells (known after.log)
@@ -129,8 +133,8 @@ pub record CountEnds (before after : RunState) (counts : Counts) : Type 0 where
   pub summed : (r : Replay) (begun : ℕ) → Tells (known after.log) → IsRun r (known before.log) before.engine [] begun before.steps
       → IsSummed r after.engine counts begun after.steps
 
--- a run stopped, between these states of the disk, of the steps and of the output: what was written begins such lines, and it stopped for
--- a cause
+-- a run stopped, between these states of the disk, of the steps and of the output, for a cause: what was written begins the lines of what was
+-- pending, and where the disk is known those of the answer of any run that it is
 pub record DriveFails (before : RunState) (disk : DiskState) (steps : ℕ) (was is : SinkState) (result : Status) : Type 0 where
   pub halted : (r : Replay) (history : List Event) (begun : ℕ) → Tells (known disk.log)
       → IsRun r (known before.log) before.engine history begun before.steps → IsHalted before.log.honest r history result was.written is.written begun steps

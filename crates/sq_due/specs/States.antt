@@ -14,9 +14,11 @@ pub record SinkState : Type 0 where
   pub written : Option (List ℕ)
   pub faults : ℕ
 
+-- by what the disk tells
 abbrev pub disk_state : {D : Type 0} → DiskGhosts D → D → DiskState
 disk_state tells disk = record { log = tells.log disk; faults = tells.faults disk }
 
+-- by what the sink tells
 abbrev pub sink_state : {S : Type 0} → SinkGhosts S → S → SinkState
 sink_state tells sink = record { written = tells.written sink; faults = tells.faults sink }
 

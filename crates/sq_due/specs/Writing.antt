@@ -16,12 +16,12 @@ pub record Moves (before : Option (List ℕ)) (waited : List ℕ) (now : Option 
 abbrev pub IsLost : ℕ → ℕ → Status → Type 0
 IsLost faults_before faults_now result = (result ≡ status.Memory) ⊎ ((result ≡ status.SinkFault) × Rose faults_before faults_now)
 
--- what was to go out is lost on its way: a beginning of it went out
+-- what was to go out is lost on its way, since memory ran out or the sink failed: a beginning of it went out
 pub record LosesRest (Begun : Type 0) (faults_before faults_now : ℕ) (result : Status) : Type 0 where
   pub begun : Begun
   pub lost : IsLost faults_before faults_now result
 
--- a beginning of a text was written
+-- a beginning of a text was written, before memory ran out or the sink failed
 abbrev pub WritesPart : SinkState → SinkState → List ℕ → Status → Type 0
 WritesPart was is text = LosesRest (AppendsPrefix was.written is.written text) was.faults is.faults
 

@@ -42,8 +42,8 @@ pub record EndsOnly (wires : Wires) (seat : ℕ) (before after : Queues) : Type 
   pub ended : (arc : ℕ) → arc < length wires.arcs.items → (face after arc).ended ≡ ((face before arc).ended || is_sent_by wires seat arc)
   pub apart : (arc : ℕ) → is_sent_by wires seat arc ≡ false → face after arc ≡ face before arc
 
--- each arc has these marks and tuples more, behind what stood there, none later than a time that `upto` allows if none was before; no arc
--- ended or lost its first item, the arcs that aren't `near` have what they had, and there are as many frames
+-- where the pages are known each arc has these marks and tuples more, behind what stood there, none later than a time that `upto` allows if none
+-- was before. No arc ended, one that had a first item has one still, the arcs that aren't `near` stand as they did, and there are as many frames
 pub record Pushes (before after : Queues) (was is : Option Pages) (more : ℕ → List Thing) (upto : ℕ → Type 0) (near : ℕ → Bool) : Type 0 where
   pub lanes : size after ≡ size before
   pub framed : frames after ≡ frames before
@@ -60,21 +60,21 @@ abbrev pub Sent : List ℕ → Item → Queues → Queues → Option Pages → O
 Sent arcs item before after was is =
     Pushes before after was is (λ arc. many (times_in arc arcs) (spread item)) (λ time. item.time ≤ time) (λ arc. contains_number arcs arc)
 
--- no arc has more than it had
+-- each arc has what it had
 abbrev pub NoneSent : Queues → Queues → Option Pages → Option Pages → Type 0
 NoneSent before after was is = Pushes before after was is (λ arc. []) (λ time. ⊤) (λ arc. false)
 
--- and no fault was met
+-- an item was sent so, and no fault was met
 pub record SentWhole (arcs : List ℕ) (item : Item) (before after : Queues) (was is : Option Pages) (failed : Option RunErr) : Type 0 where
   pub sent : Sent arcs item before after was is
   pub whole : failed ≡ None
 
--- the item couldn't be sent. Where no fault was kept memory ran out, and no arc has more than it had
+-- the item couldn't be sent. Where no fault was kept memory ran out, and each arc has what it had
 pub record SendErr (before after : Queues) (was is : DiskLog) (faults faults' : ℕ) (failed : Option RunErr) : Type 0 where
   pub unsent : failed ≡ None → NoneSent before after (known was) (known is)
   pub fails : FailsOver after was is faults faults' (fault_or failed)
 
--- an item may go to these arcs: each is there, and none has ended
+-- a sound item may go to these arcs: each is there, and none has ended
 pub record MaySend (arcs : List ℕ) (queues : Queues) (was : Option Pages) (item : Item) : Type 0 where
   pub there : (place arc : ℕ) → slice_get arcs place ≡ Some arc → (arc < size queues) × ((face queues arc).ended ≡ false)
   pub sound : IsSoundItem item

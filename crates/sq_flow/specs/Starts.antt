@@ -45,7 +45,8 @@ pub record AreNewSources (sources : List Recorded) : Type 0 where
   pub few : length sources < 2 ^ 32
   pub few_tuples : (source : ℕ) → length (tuples_to_come (slice_get sources source)) ≤ 1000000
 
--- the parts of a new flow: the operators are joined by these wires, nothing was fed to them, and no level is known
+-- the parts of a new flow: the operators are joined by these wires, nothing was fed to them, the sources are few and in the order of times, no
+-- level is known, and there are two frames at least
 pub record AreNewParts {O : Type 0} (m : Ghosts O) (wires : Wires) (ops : List (Seat O)) (streams : List Recorded) (table : LevelTable) (most : ℕ) : Type 0 where
   pub shaped : IsShaped wires (length ops)
   pub seats : (seat : ℕ) → holds_at (IsNewSeat m ((net_of wires).takes seat) ((net_of wires).fits seat) (IsOwn wires seat) table.epoch) (slice_get ops seat)
@@ -53,7 +54,7 @@ pub record AreNewParts {O : Type 0} (m : Ghosts O) (wires : Wires) (ops : List (
   pub levels : (table.closed ≡ 1) × (table.rows ≡ [])
   pub frames : 2 ≤ most
 
--- a flow of these parts that has released nothing, with so many pages in memory at most
+-- a flow of these parts that has released nothing, whose queues are empty and have so many frames
 pub record IsNewFlow {O : Type 0} (wires : Wires) (seats : Vec (Seat O) Global) (sources : Vec Recorded Global)
     (planner : Setting) (levels : LevelTable) (most : ℕ) (flow : Flow O) : Type 0 where
   pub wires_are : flow.wires ≡ wires
@@ -68,7 +69,7 @@ pub record IsNewFlow {O : Type 0} (wires : Wires) (seats : Vec (Seat O) Global) 
   pub empty : (pages : Option Pages) (arc : ℕ) → items_on flow.queues pages arc ≡ []
   pub together : (pages : Option Pages) → Together flow.queues pages
 
--- it is sound, and all its plans are still to be shown
+-- a flow of these parts that is sound; its levels are planned for what arrives, and all its plans are still to be shown
 pub record BeginsFlow {O : Type 0} (m : Ghosts O) (wires : Wires) (seats : Vec (Seat O) Global) (sources : Vec Recorded Global)
     (planner : Setting) (levels : LevelTable) (most : ℕ) (e : Flow O) : Type 0 where
   pub flow : IsFlow m e

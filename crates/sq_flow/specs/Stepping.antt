@@ -1,8 +1,8 @@
 -- What the calls that take steps promise, between two moments of a run.
 --     stage ..                 what stands at one moment
---     Proceeds m actor a b     calls of one actor that ended Ok lead from a to b
---     MayStep, HasNext         what a step asks
---     StepOk, TrainOk          one step, and a train of steps
+--     Proceeds m seat a b      calls of the actor at a seat that ended Ok lead from a to b
+--     MayStep, HasNext, HasFeed    what a step asks
+--     StepOk, StepWhole, TrainOk   one step, one that met no fault, and a train of steps
 --     StepErr m a b e          a step, or a train, that failed with e
 use Rattle.std.specs.Prelude.{◌≡◌, ◌⊎◌, ℕ, ◌≤◌, ◌<◌, true, false, List, length, Option, None, slice_get}
 use Rattle.sq_outside.specs.Disks.{DiskLog, Pages}
@@ -43,7 +43,7 @@ pub record Holds {O : Type 0} (m : Ghosts O) (e : Flow O) (was : Option Pages) :
   pub flow : IsFlow m e
   pub together : Together e.queues was
 
--- what a step asks: such a flow, and that no fault was met
+-- what a step asks: a sound flow whose queues go with the pages, and that no fault was met
 pub record MayStep {O : Type 0} (m : Ghosts O) (e : Flow O) (was : Option Pages) (failed : Option RunErr) : Type 0 where
   pub holds : Holds m e was
   pub whole : failed ≡ None
@@ -54,6 +54,7 @@ pub record HasNext {O : Type 0} (e : Flow O) (seat : ℕ) (next : Next) : Type 0
   pub head : NextUpTo (arcs_read e.wires seat) (λ a. (face e.queues a).first) (λ a. (face e.queues a).ended) (length (arcs_read e.wires seat)) next
   pub running : done_at e.over (slice_get e.seats.items seat) ≡ false
 
+-- and it is this arc's first item, at this port
 pub record HasFeed {O : Type 0} (e : Flow O) (seat port arc : ℕ) : Type 0 where
   pub time : ℕ
   pub next : HasNext e seat (Feed time port arc)

@@ -17,7 +17,7 @@ use Rattle.sq_left.specs.Remainder.{Net, Holding}
 use Rattle.sq_below.specs.Laws.{PointsMeasured}
 use Rattle.sq_below.specs.ArcContents.{drop_fed, DropsFit}
 use Rattle.sq_below.specs.Actors.{Actor, Box, WindowDrop, OutputGate, giver, arc_from, stream_of, StreamsFollow}
-use Rattle.sq_start.specs.Numbers.{IsThere, ops_of, number_of, actor_at, place_stream, window_drop_reads, reads_of}
+use Rattle.sq_start.specs.Numbers.{IsThere, ops_of, seat_of_actor, actor_at, place_stream, window_drop_reads, reads_of}
 use Rattle.sq_start.specs.Nets.{AllCome, fed_to, drop_fed_at}
 use Rattle.sq_start.specs.Starts.{IsReadReplay}
 use Rattle.sq_start.specs.Laws.{IsNew}
@@ -51,10 +51,10 @@ apart k m le ne =
 no_point : DropPoint
 no_point = record { at = at.Stream 0; boxes = []; outputs = []; reach = []; length = 0; keep = 0 }
 
-stream-there : (r : Replay) (x : Actor) (port : ℕ) → IsThere r.network x → streams_by r (number_of r.network x) port ≡ stream_of r (x, port)
+stream-there : (r : Replay) (x : Actor) (port : ℕ) → IsThere r.network x → streams_by r (seat_of_actor r.network x) port ≡ stream_of r (x, port)
 stream-there r x port there =
     let at = there-at r.network x there in
-    stream-low r (number_of r.network x) port at.0 ∙ ap (λ y. stream_of r (y, port)) at.1
+    stream-low r (seat_of_actor r.network x) port at.0 ∙ ap (λ y. stream_of r (y, port)) at.1
 
 -- arcs that come as they should carry the streams
 come : (r : Replay) (net : Net) (xs : List (Actor × ℕ)) (arcs : List ℕ) → AllByRecursion (λ (y : Actor × ℕ). IsThere r.network y.0) xs → AllCome r.network net xs arcs
@@ -64,7 +64,7 @@ come r net [] (arc ∷ arcs) there all = absurd all
 come r net (x ∷ xs) [] there all = absurd all
 come r net (x ∷ xs) (arc ∷ arcs) there all =
     let here : streams_by r (net.from arc) (net.port arc) ≡ stream_of r x =
-    ap (λ k. streams_by r k (net.port arc)) all.0.0 ∙ ap (streams_by r (number_of r.network x.0)) all.0.1 ∙ stream-there r x.0 x.1 there.0 in
+    ap (λ k. streams_by r k (net.port arc)) all.0.0 ∙ ap (streams_by r (seat_of_actor r.network x.0)) all.0.1 ∙ stream-there r x.0 x.1 there.0 in
     ap (λ z. z ∷ map (λ a. streams_by r (net.from a) (net.port a)) arcs) here ∙ ap (λ l. stream_of r x ∷ l) (come r net xs arcs there.1 all.1)
 
 module _ (r : Replay) (read : IsReadReplay r) (follow : StreamsFollow r) (drops : DropsFit r) (points : PointsMeasured r) where

@@ -17,7 +17,7 @@ use Rattle.sq_place.specs.Places.{stream_on}
 use Rattle.sq_points.specs.Points.{points_of, drops_in}
 use Rattle.sq_below.specs.ArcContents.{Drop}
 use Rattle.sq_below.specs.Actors.{Actor, Sources, Box, WindowDrop, OutputGate, giver, from_drop, arc_from}
-use Rattle.sq_start.specs.Numbers.{IsThere, first_output, ops_of, number_of, actor_at, place_stream, window_drop_reads, reads_of}
+use Rattle.sq_start.specs.Numbers.{IsThere, first_output, ops_of, seat_of_actor, actor_at, place_stream, window_drop_reads, reads_of}
 use Rattle.sq_start.proofs.PointLemmas.{first-found}
 use Rattle.sq_words.proofs.Numbers.{nat_lt_true}
 use Rattle.sq_points.specs.Above.{drop_on_arc}
@@ -66,7 +66,7 @@ which n k low =
           ])
     ]
 
-pub there-at : (n : Network) (x : Actor) → IsThere n x → (number_of n x ≤ ops_of n) × (actor_at n (number_of n x) ≡ x)
+pub there-at : (n : Network) (x : Actor) → IsThere n x → (seat_of_actor n x ≤ ops_of n) × (actor_at n (seat_of_actor n x) ≡ x)
 there-at n Sources h = (omega arith, replay-at n)
 there-at n (Box b) h = (omega (arith, h), box-at n b h)
 there-at n (WindowDrop w) h = (omega (arith, h), drop-at n w h)

@@ -11,7 +11,7 @@ use Rattle.sq_model.specs.KeptTuples.{work_of, turns_of}
 use Rattle.sq_left.specs.Remainder.{Net, Holding, coming, inputs, is_known_actor, IsLaidOut, Facts, fed_in_all, lost_in_all, still_dropped}
 use Rattle.sq_below.specs.Actors.{OutputGate, stream_of}
 use Rattle.sq_below.specs.ArcContents.{box_fed}
-use Rattle.sq_start.specs.Numbers.{ops_of, number_of, actor_at}
+use Rattle.sq_start.specs.Numbers.{ops_of, seat_of_actor, actor_at}
 use Rattle.sq_start.specs.Nets.{Joins, fed_to, decided_by, count_fed}
 use Rattle.sq_start.specs.Starts.{IsReadReplay}
 
@@ -34,7 +34,7 @@ pub record IsNew (r : Replay) (net : Net) (w : Holding) : Type 0 where
 pub record StartsAs (r : Replay) (net : Net) (w : Holding) (order : List ℕ) : Type 0 where
   pub facts : Facts net w order
   pub streams : (actor : ℕ) → actor < ops_of r.network → (port : ℕ) → coming net w order actor port ≡ stream_of r (actor_at r.network actor, port)
-  pub lines : (o : ℕ) → o < length r.network.wires.outputs → coming net w order (number_of r.network (OutputGate o)) 0 ≡ things (answer_of r o)
+  pub lines : (o : ℕ) → o < length r.network.wires.outputs → coming net w order (seat_of_actor r.network (OutputGate o)) 0 ≡ things (answer_of r o)
   pub decided : (actor : ℕ) → actor < ops_of r.network → still_dropped net w order actor ≡ decided_by r (actor_at r.network actor)
   pub fed : (actor : ℕ) → actor < ops_of r.network → fed_in_all net w order actor ≡ count_fed r (actor_at r.network actor)
   pub late : (b : ℕ) → b < length r.network.boxes → lost_in_all net w order b ≡ late_of r.network r.sources b

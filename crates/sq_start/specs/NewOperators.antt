@@ -48,10 +48,10 @@ actor_fits n (WindowDrop w) port fields = port == 0
 actor_fits n (OutputGate o) port fields = true
 
 -- a new operator of a network stands for this actor of it, where the draws have this seed
-pub record IsStarted (n : Network) (number : ℕ) (x : Actor) (a : operator.Actor) : Type 0 where
-  pub gives : (r : Replay) → IsReadReplay r → r.network ≡ n → r.seed ≡ number → (q : ℕ) → ghosts.rest a (batch_level r) (fed_to r x) q ≡ stream_of r (x, q)
-  pub decides : (r : Replay) → IsReadReplay r → r.network ≡ n → r.seed ≡ number → ghosts.decides a (batch_level r) (fed_to r x) ≡ decided_by r x
-  pub loses : (r : Replay) → IsReadReplay r → r.network ≡ n → r.seed ≡ number → ghosts.lost a (fed_to r x) ≡ late_of_actor r x
+pub record IsStarted (n : Network) (seed : ℕ) (x : Actor) (a : operator.Actor) : Type 0 where
+  pub gives : (r : Replay) → IsReadReplay r → r.network ≡ n → r.seed ≡ seed → (q : ℕ) → ghosts.rest a (batch_level r) (fed_to r x) q ≡ stream_of r (x, q)
+  pub decides : (r : Replay) → IsReadReplay r → r.network ≡ n → r.seed ≡ seed → ghosts.decides a (batch_level r) (fed_to r x) ≡ decided_by r x
+  pub loses : (r : Replay) → IsReadReplay r → r.network ≡ n → r.seed ≡ seed → ghosts.lost a (fed_to r x) ≡ late_of_actor r x
   pub owns : (table : ℕ → ℕ → ℕ) (future : List Entry) → IsFuture (ghosts.takes_marks a) (ghosts.fits a) Start future
       → AllByRecursion (λ d. x ≡ WindowDrop d.drop) (ghosts.decides a table future)
   pub marks : (port : ℕ) → actor_marks n x port ≡ true → ghosts.takes_marks a port ≡ true
@@ -65,4 +65,4 @@ pub record IsStarted (n : Network) (number : ℕ) (x : Actor) (a : operator.Acto
 
 -- the first operators of a network
 abbrev pub AreStarted : Network → ℕ → List operator.Actor → Type 0
-AreStarted n number actors = (k : ℕ) (a : operator.Actor) → slice_get actors k ≡ Some a → IsStarted n number (actor_at n k) a
+AreStarted n seed actors = (k : ℕ) (a : operator.Actor) → slice_get actors k ≡ Some a → IsStarted n seed (actor_at n k) a

@@ -17,13 +17,14 @@ first_output n = length n.boxes + drops_in n
 abbrev pub ops_of : Network → ℕ
 ops_of n = first_output n + length n.wires.outputs
 
-abbrev pub number_of : Network → Actor → ℕ
-number_of n Sources = ops_of n
-number_of n (Box b) = b
-number_of n (WindowDrop w) = length n.boxes + w
-number_of n (OutputGate o) = first_output n + o
+-- the seat of an actor
+abbrev pub seat_of_actor : Network → Actor → ℕ
+seat_of_actor n Sources = ops_of n
+seat_of_actor n (Box b) = b
+seat_of_actor n (WindowDrop w) = length n.boxes + w
+seat_of_actor n (OutputGate o) = first_output n + o
 
--- the actor of a number
+-- the actor at a seat
 abbrev pub actor_at : Network → ℕ → Actor
 actor_at n k =
     if nat_lt k (length n.boxes) then Box k
