@@ -26,7 +26,7 @@ none-lane zero arc kept = record { count = refl; first = refl; last = refl }
 none-lane (suc n) zero kept = record { count = refl; first = refl; last = refl }
 none-lane (suc n) (suc arc) kept = none-lane n arc kept
 
-pub none-listed : (n arc : ℕ) → nth (replicate n []) arc ≡ []
+pub none-listed : (n arc : ℕ) → nth {X = ℕ} (replicate n []) arc ≡ []
 none-listed zero arc = refl
 none-listed (suc n) zero = refl
 none-listed (suc n) (suc arc) = none-listed n arc
