@@ -1,8 +1,18 @@
-use Rattle.std.proofs.Common.{◌≡◌, ◌∙◌, [], ap, arith, length, map, sym, vec_len}
+use Rattle.std.proofs.Common.{◌≡◌, ◌∙◌, ℕ, List, [], ap, arith, length, map, sym, vec_len}
 use Rattle.std.proofs.lemmas.Grind.{common_steps}
 use Rattle.std.proofs.lemmas.List.{get_or-map, length-map}
+use Rattle.sq_graph.specs.Wires.{arcs_of}
 use Rattle.sq_model.proofs.ArcLemmas.{arc_held, arcs_carry}
 use Rattle.sq_model.proofs.arcs.full.Goals as goal
+
+pub index-stream-requires : goal.index-stream-requires
+index-stream-requires c =
+    let wires = c.args.n.now.wires in
+    let carried = ap (λ (streams : List ℕ). length streams) (c.in_ok-streams.ensures ∙ sym (arcs_carry wires)) in
+    let many = length-map (arcs_of wires) (λ a. a.stream) in
+    let whole : vec_len c.in_ok-streams.streams ≡ length c.in_ok-streams.streams.items = grind (arith, common_steps) in
+    let low = c.requires.arc in
+    omega (arith, carried, many, whole, low)
 
 pub swap_remove-requires : goal.swap_remove-requires
 swap_remove-requires c =
