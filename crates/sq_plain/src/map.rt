@@ -16,13 +16,13 @@ ghost use Rattle.sq_tagged.specs.EntrywiseBoxes.{for_mark, for_body};
 ghost use Rattle.sq_plain.specs.Maps.{map_gives, map_rest, makes_tuple};
 ghost use Rattle.sq_expr.specs.Checking.{trees};
 
+use crate::give::{give_mark, give_tuple};
 use sq_expr::Typed;
 use sq_item::{Body, Item, Sign};
+use sq_lists::map_tuple;
 use sq_oper::{Decision, Operator, Outlet, Position, Tally, tick_if};
 use sq_outside::Steps;
-use sq_lists::map_tuple;
 use sq_road::Levels;
-use sq_plain::{give_mark, give_tuple};
 use sq_value::{Tuple, Value};
 use std::alloc::AllocError;
 use std::sync::ledger::Ledger;
