@@ -23,7 +23,7 @@ use crate::waiting::Waiting;
 use crate::windows::{forget_ended, next_end};
 use sq_aggfn::{Fold, WindowSpec};
 use sq_item::Item;
-use sq_oper::{Decision, Operator, Outlet, Position, Tally};
+use sq_oper::{Decision, Operator, Outlet, Position, Tally, tick_if};
 use sq_outside::Steps;
 use sq_pane::Panes;
 use sq_road::Levels;
@@ -93,15 +93,6 @@ fn first_open(size: u64, time: u64) -> u64
     (time + 1).saturating_sub(size)
 }
 
-/// Counts a step, where a tuple was fed.
-fn count_step<L: Ledger>(fed: bool, steps: &mut Steps<L>)
-    ensures { steps.new ≡ steps.old + (if fed then 1 else 0) }
-{
-    if fed {
-        steps.tick();
-    }
-}
-
 impl<F: Fold + Drop> Operator for AggregateBox<F> {
     ghost valid = { λ s. IsWindow s.panes.window × (time_of s.tally.place < 2 ^ 40) × (IsGcd s.panes.window.size s.panes.window.advance s.panes.width × (1 ≤ s.panes.width))
         × HoldsPanes (F.made s.panes.fold) (F.number s.panes.fold) s.panes.window s.panes.width (F.width s.panes.fold) s.tally.taken s.tally.place (states_of s.panes.held)
@@ -157,7 +148,7 @@ impl<F: Fold + Drop> Operator for AggregateBox<F> {
         self.waiting
             .push(self.panes.window.size - 1, time, &item.mark)?;
         add_body(&self.group, &mut self.panes, time, item.body, out)?;
-        count_step(fed, steps);
+        tick_if(steps, fed);
         Ok(())
     }
 

@@ -2,9 +2,8 @@
 
 ghost use Rattle.std.specs.Prelude.{◌≡◌, ℕ, ◌+◌, ◌-◌, ◌*◌, ◌^◌, ◌<◌, ◌≤◌, ◌++◌, [], OnOk, OnErr};
 ghost use Rattle.std.specs.List.{AllByRecursion, flat_map, range_with_len};
-ghost use Rattle.sq_words.specs.Lists.{IsPrefixOf};
 ghost use Rattle.sq_aggfn.specs.Windows.{IsWindow, start_of};
-ghost use Rattle.sq_oper.specs.Outflow.{given, ItemsSound};
+ghost use Rattle.sq_oper.specs.Giving.{GaveSome};
 ghost use Rattle.sq_oper.specs.Streams.{at_zero};
 ghost use Rattle.sq_pane.specs.Panes.{shift_of};
 ghost use Rattle.sq_rows.specs.Rows.{total, AllAreMade};
@@ -37,17 +36,8 @@ fn give_window<F: Fold + Drop, T: Outlet>(
     requires marks { AllByRecursion IsSoundMark (bounds_of waiting.old).waiting }
     requires is_ready { T.ready out.old }
     ensures bounds { OnOk result (bounds_of waiting.new ≡ closed_at (start_of panes.now.window k + 1) (bounds_of waiting.old)) }
-    ensures given { OnOk result ((q : ℕ) → given q (T.items out.new)
-        ≡ given q (T.items out.old) ++ at_zero q (due_before (F.told panes.now.fold) (start_of panes.now.window k + 1) (bounds_of waiting.old).waiting
-        (ended (F.none panes.now.fold) (F.joined panes.now.fold) panes.now.window panes.now.width (bounds_of waiting.old) (states_of panes.now.held) k))) }
-    ensures prefix { OnErr result ((q : ℕ) → IsPrefixOf (given q (T.items out.new))
-        (given q (T.items out.old) ++ at_zero q (due_before (F.told panes.now.fold) (start_of panes.now.window k + 1) (bounds_of waiting.old).waiting
-        (ended (F.none panes.now.fold) (F.joined panes.now.fold) panes.now.window panes.now.width (bounds_of waiting.old) (states_of panes.now.held) k)))) }
-    ensures sound { ItemsSound (T.items out.old) → ItemsSound (T.items out.new) }
-    ensures extends { IsPrefixOf (T.items out.old) (T.items out.new) }
-    ensures drops { T.drops out.new ≡ T.drops out.old }
-    ensures stays_ready { OnOk result (T.ready out.new) }
-    ensures came { (start : T) → T.came start out.old → T.came start out.new }
+    ensures gives { GaveSome T.Outlet (λ q. at_zero q (due_before (F.told panes.now.fold) (start_of panes.now.window k + 1) (bounds_of waiting.old).waiting
+        (ended (F.none panes.now.fold) (F.joined panes.now.fold) panes.now.window panes.now.width (bounds_of waiting.old) (states_of panes.now.held) k))) out.old out.new result }
 {
     let start = panes.window.start_of(k);
     let allowed = waiting.allows(start);
@@ -77,17 +67,8 @@ fn give_windows<F: Fold + Drop, T: Outlet>(
     requires marks { AllByRecursion IsSoundMark (bounds_of waiting.old).waiting }
     requires is_ready { T.ready out.old }
     ensures bounds { OnOk result (bounds_of waiting.new ≡ closed_at mid (bounds_of waiting.old)) }
-    ensures given { OnOk result ((q : ℕ) → given q (T.items out.new)
-        ≡ given q (T.items out.old) ++ at_zero q (due_before (F.told panes.now.fold) mid (bounds_of waiting.old).waiting
-        (flat_map (ended (F.none panes.now.fold) (F.joined panes.now.fold) panes.now.window panes.now.width (bounds_of waiting.old) (states_of panes.now.held)) (range_with_len from (end - from))))) }
-    ensures prefix { OnErr result ((q : ℕ) → IsPrefixOf (given q (T.items out.new))
-        (given q (T.items out.old) ++ at_zero q (due_before (F.told panes.now.fold) mid (bounds_of waiting.old).waiting
-        (flat_map (ended (F.none panes.now.fold) (F.joined panes.now.fold) panes.now.window panes.now.width (bounds_of waiting.old) (states_of panes.now.held)) (range_with_len from (end - from)))))) }
-    ensures sound { ItemsSound (T.items out.old) → ItemsSound (T.items out.new) }
-    ensures extends { IsPrefixOf (T.items out.old) (T.items out.new) }
-    ensures drops { T.drops out.new ≡ T.drops out.old }
-    ensures stays_ready { OnOk result (T.ready out.new) }
-    ensures came { (start : T) → T.came start out.old → T.came start out.new }
+    ensures gives { GaveSome T.Outlet (λ q. at_zero q (due_before (F.told panes.now.fold) mid (bounds_of waiting.old).waiting
+        (flat_map (ended (F.none panes.now.fold) (F.joined panes.now.fold) panes.now.window panes.now.width (bounds_of waiting.old) (states_of panes.now.held)) (range_with_len from (end - from))))) out.old out.new result }
 {
     for k in from..end {
         give_window(panes, waiting, k, out)?;
@@ -117,17 +98,8 @@ pub fn give_open<F: Fold + Drop, T: Outlet>(
     requires later { open_at panes.now.window.size now ≤ mid }
     requires is_ready { T.ready out.old }
     ensures bounds { OnOk result (bounds_of waiting.new ≡ closed_at mid (bounds_of waiting.old)) }
-    ensures given { OnOk result ((q : ℕ) → given q (T.items out.new)
-        ≡ given q (T.items out.old) ++ at_zero q (told_open (folding_of [] (F.none panes.now.fold) (F.joined panes.now.fold) (F.unit panes.now.fold) (F.told panes.now.fold))
-        panes.now.window panes.now.width now mid (bounds_of waiting.old) (states_of panes.now.held))) }
-    ensures prefix { OnErr result ((q : ℕ) → IsPrefixOf (given q (T.items out.new))
-        (given q (T.items out.old) ++ at_zero q (told_open (folding_of [] (F.none panes.now.fold) (F.joined panes.now.fold) (F.unit panes.now.fold) (F.told panes.now.fold))
-        panes.now.window panes.now.width now mid (bounds_of waiting.old) (states_of panes.now.held)))) }
-    ensures sound { ItemsSound (T.items out.old) → ItemsSound (T.items out.new) }
-    ensures extends { IsPrefixOf (T.items out.old) (T.items out.new) }
-    ensures drops { T.drops out.new ≡ T.drops out.old }
-    ensures stays_ready { OnOk result (T.ready out.new) }
-    ensures came { (start : T) → T.came start out.old → T.came start out.new }
+    ensures gives { GaveSome T.Outlet (λ q. at_zero q (told_open (folding_of [] (F.none panes.now.fold) (F.joined panes.now.fold) (F.unit panes.now.fold) (F.told panes.now.fold))
+        panes.now.window panes.now.width now mid (bounds_of waiting.old) (states_of panes.now.held))) out.old out.new result }
 {
     let from = panes.window.first_covering(now);
     let end = filled_before(panes.window, now, mid);
@@ -161,17 +133,8 @@ pub fn give_ended<F: Fold + Drop, T: Outlet>(
     requires is_ready { T.ready out.old }
     ensures panes { panes.new ≡ panes.old }
     ensures bounds { OnOk result (bounds_of waiting.new ≡ closed_at mid (bounds_of waiting.old)) }
-    ensures given { OnOk result ((q : ℕ) → given q (T.items out.new)
-        ≡ given q (T.items out.old) ++ at_zero q (told_open (folding_of [] (F.none panes.old.fold) (F.joined panes.old.fold) (F.unit panes.old.fold) (F.told panes.old.fold))
-        panes.old.window panes.old.width now mid (bounds_of waiting.old) (states_of panes.old.held))) }
-    ensures prefix { OnErr result ((q : ℕ) → IsPrefixOf (given q (T.items out.new))
-        (given q (T.items out.old) ++ at_zero q (told_open (folding_of [] (F.none panes.old.fold) (F.joined panes.old.fold) (F.unit panes.old.fold) (F.told panes.old.fold))
-        panes.old.window panes.old.width now mid (bounds_of waiting.old) (states_of panes.old.held)))) }
-    ensures sound { ItemsSound (T.items out.old) → ItemsSound (T.items out.new) }
-    ensures extends { IsPrefixOf (T.items out.old) (T.items out.new) }
-    ensures drops { T.drops out.new ≡ T.drops out.old }
-    ensures stays_ready { OnOk result (T.ready out.new) }
-    ensures came { (start : T) → T.came start out.old → T.came start out.new }
+    ensures gives { GaveSome T.Outlet (λ q. at_zero q (told_open (folding_of [] (F.none panes.old.fold) (F.joined panes.old.fold) (F.unit panes.old.fold) (F.told panes.old.fold))
+        panes.old.window panes.old.width now mid (bounds_of waiting.old) (states_of panes.old.held))) out.old out.new result }
 {
     if time < ends {
         if waiting.is_empty() {

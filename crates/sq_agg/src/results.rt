@@ -2,8 +2,7 @@
 
 ghost use Rattle.std.specs.Prelude.{◌≡◌, ℕ, ◌^◌, ◌<◌, ◌++◌, [], ◌∷◌, OnOk, OnErr};
 ghost use Rattle.std.specs.List.{AllByRecursion};
-ghost use Rattle.sq_words.specs.Lists.{IsPrefixOf};
-ghost use Rattle.sq_oper.specs.Outflow.{given, ItemsSound};
+ghost use Rattle.sq_oper.specs.Giving.{Gave, GaveSome};
 ghost use Rattle.sq_oper.specs.Streams.{things, at_zero};
 ghost use Rattle.sq_pane.specs.Panes.{window_from};
 ghost use Rattle.sq_rows.specs.Rows.{total, AllAreMade};
@@ -29,13 +28,7 @@ fn give_result<F: Fold, T: Outlet>(
     requires sound { IsSoundKey (F.width fold.now) (start, group.now) }
     requires made { F.made fold.now state.now }
     requires is_ready { T.ready out.old }
-    ensures given { OnOk result ((q : ℕ) → given q (T.items out.new) ≡ given q (T.items out.old) ++ at_zero q (things (results_of (F.told fold.now) (tagged start ((group.now, state.now) ∷ []))))) }
-    ensures err { OnErr result (T.items out.new ≡ T.items out.old) }
-    ensures sound { ItemsSound (T.items out.old) → ItemsSound (T.items out.new) }
-    ensures extends { IsPrefixOf (T.items out.old) (T.items out.new) }
-    ensures drops { T.drops out.new ≡ T.drops out.old }
-    ensures stays_ready { OnOk result (T.ready out.new) }
-    ensures came { (start : T) → T.came start out.old → T.came start out.new }
+    ensures { Gave T.Outlet (λ q. at_zero q (things (results_of (F.told fold.now) (tagged start ((group.now, state.now) ∷ []))))) out.old out.new result }
 {
     let fields = fold.answer_after(group.as_slice(), state.get())?;
     out.give(
@@ -60,15 +53,8 @@ pub fn give_results<F: Fold + Drop, T: Outlet>(
     requires few { total (F.number panes.now.fold) (states_of panes.now.held) < 2 ^ 62 }
     requires fit { AllByRecursion (λ e. FitsResult (F.width panes.now.fold) e.0.1) (states_of panes.now.held) }
     requires is_ready { T.ready out.old }
-    ensures given { OnOk result ((q : ℕ) → given q (T.items out.new) ≡ given q (T.items out.old) ++ at_zero q (things (results_of (F.told panes.now.fold)
-        (tagged start (window_from (F.none panes.now.fold) (F.joined panes.now.fold) panes.now.window panes.now.width start [] (states_of panes.now.held)))))) }
-    ensures prefix { OnErr result ((q : ℕ) → IsPrefixOf (given q (T.items out.new)) (given q (T.items out.old) ++ at_zero q (things (results_of (F.told panes.now.fold)
-        (tagged start (window_from (F.none panes.now.fold) (F.joined panes.now.fold) panes.now.window panes.now.width start [] (states_of panes.now.held))))))) }
-    ensures sound { ItemsSound (T.items out.old) → ItemsSound (T.items out.new) }
-    ensures extends { IsPrefixOf (T.items out.old) (T.items out.new) }
-    ensures drops { T.drops out.new ≡ T.drops out.old }
-    ensures stays_ready { OnOk result (T.ready out.new) }
-    ensures came { (start : T) → T.came start out.old → T.came start out.new }
+    ensures { GaveSome T.Outlet (λ q. at_zero q (things (results_of (F.told panes.now.fold)
+        (tagged start (window_from (F.none panes.now.fold) (F.joined panes.now.fold) panes.now.window panes.now.width start [] (states_of panes.now.held)))))) out.old out.new result }
 {
     let groups = panes.groups_by_blocks(start)?;
     for entry in &groups {

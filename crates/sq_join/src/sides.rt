@@ -1,12 +1,11 @@
 //! Giving the pairs of a tuple with what is held of the other side.
 
-ghost use Rattle.std.specs.Prelude.{◌≡◌, ℕ, ◌++◌, ◌∷◌, [], IfSome, OnOk, OnErr};
+ghost use Rattle.std.specs.Prelude.{◌≡◌, ◌∷◌, [], IfSome, OnOk};
 ghost use Rattle.std.specs.List.{AllByRecursion};
-ghost use Rattle.sq_words.specs.Lists.{IsPrefixOf};
 ghost use Rattle.sq_expr.specs.Trees.{Expr};
 ghost use Rattle.sq_lists.specs.Sides.{against, left_with, pair_at, pairs_with, recent, right_with};
 ghost use Rattle.sq_join.specs.Indexes.{AreOf, HasPassing, IsIndex, MayIndex};
-ghost use Rattle.sq_oper.specs.Outflow.{given, ItemsSound};
+ghost use Rattle.sq_oper.specs.Giving.{Gave, GaveSome};
 ghost use Rattle.sq_oper.specs.Streams.{IsSoundTuple, things, at_zero};
 
 use crate::index::Index;
@@ -31,14 +30,7 @@ fn give_pair<T: Outlet>(
 ) -> Result<(), AllocError>
     requires sound { IsSoundTuple (pair_at side x.now other.now) }
     requires is_ready { T.ready out.old }
-    ensures given { OnOk result ((q : ℕ) → given q (T.items out.new)
-        ≡ given q (T.items out.old) ++ at_zero q (things (pairs_with on.now.tree side x.now (other.now ∷ [])))) }
-    ensures err { OnErr result (T.items out.new ≡ T.items out.old) }
-    ensures sound { ItemsSound (T.items out.old) → ItemsSound (T.items out.new) }
-    ensures extends { IsPrefixOf (T.items out.old) (T.items out.new) }
-    ensures drops { T.drops out.new ≡ T.drops out.old }
-    ensures stays_ready { OnOk result (T.ready out.new) }
-    ensures came { (start : T) → T.came start out.old → T.came start out.new }
+    ensures { Gave T.Outlet (λ q. at_zero q (things (pairs_with on.now.tree side x.now (other.now ∷ [])))) out.old out.new result }
 {
     if let Some(pair) = on.passing_pair(alloc, side, x, other)? {
         let Tuple { time, fields } = pair;
@@ -64,15 +56,7 @@ fn give_pairs<T: Outlet>(
 ) -> Result<(), AllocError>
     requires sound { AllByRecursion (λ y. IsSoundTuple (pair_at side x.now y)) others.now.items }
     requires is_ready { T.ready out.old }
-    ensures given { OnOk result ((q : ℕ) → given q (T.items out.new)
-        ≡ given q (T.items out.old) ++ at_zero q (things (pairs_with on.now.tree side x.now others.now.items))) }
-    ensures prefix { OnErr result ((q : ℕ) → IsPrefixOf (given q (T.items out.new))
-        (given q (T.items out.old) ++ at_zero q (things (pairs_with on.now.tree side x.now others.now.items)))) }
-    ensures sound { ItemsSound (T.items out.old) → ItemsSound (T.items out.new) }
-    ensures extends { IsPrefixOf (T.items out.old) (T.items out.new) }
-    ensures drops { T.drops out.new ≡ T.drops out.old }
-    ensures stays_ready { OnOk result (T.ready out.new) }
-    ensures came { (start : T) → T.came start out.old → T.came start out.new }
+    ensures { GaveSome T.Outlet (λ q. at_zero q (things (pairs_with on.now.tree side x.now others.now.items))) out.old out.new result }
 {
     let alloc = *others.allocator();
     for i in 0..others.len() {
@@ -96,15 +80,7 @@ fn give_pairs_in_row<T: Outlet>(
     requires passing { HasPassing on.now.tree side x.now others.now.items index.now row }
     requires sound { AllByRecursion (λ y. IsSoundTuple (pair_at side x.now y)) others.now.items }
     requires is_ready { T.ready out.old }
-    ensures given { OnOk result ((q : ℕ) → given q (T.items out.new)
-        ≡ given q (T.items out.old) ++ at_zero q (things (pairs_with on.now.tree side x.now others.now.items))) }
-    ensures prefix { OnErr result ((q : ℕ) → IsPrefixOf (given q (T.items out.new))
-        (given q (T.items out.old) ++ at_zero q (things (pairs_with on.now.tree side x.now others.now.items)))) }
-    ensures sound { ItemsSound (T.items out.old) → ItemsSound (T.items out.new) }
-    ensures extends { IsPrefixOf (T.items out.old) (T.items out.new) }
-    ensures drops { T.drops out.new ≡ T.drops out.old }
-    ensures stays_ready { OnOk result (T.ready out.new) }
-    ensures came { (start : T) → T.came start out.old → T.came start out.new }
+    ensures { GaveSome T.Outlet (λ q. at_zero q (things (pairs_with on.now.tree side x.now others.now.items))) out.old out.new result }
 {
     let alloc = *others.allocator();
     let (first, positions) = (index.first, &index.rows[row]);
@@ -128,15 +104,7 @@ fn meet<T: Outlet>(
     requires indexes { MayIndex on.now.tree sides.now.left.items sides.now.right.items indexes.now }
     requires sound { AllByRecursion (λ y. IsSoundTuple (pair_at side x.now y)) (against side sides.now.left.items sides.now.right.items) }
     requires is_ready { T.ready out.old }
-    ensures given { OnOk result ((q : ℕ) → given q (T.items out.new)
-        ≡ given q (T.items out.old) ++ at_zero q (things (pairs_with on.now.tree side x.now (against side sides.now.left.items sides.now.right.items)))) }
-    ensures prefix { OnErr result ((q : ℕ) → IsPrefixOf (given q (T.items out.new))
-        (given q (T.items out.old) ++ at_zero q (things (pairs_with on.now.tree side x.now (against side sides.now.left.items sides.now.right.items))))) }
-    ensures sound { ItemsSound (T.items out.old) → ItemsSound (T.items out.new) }
-    ensures extends { IsPrefixOf (T.items out.old) (T.items out.new) }
-    ensures drops { T.drops out.new ≡ T.drops out.old }
-    ensures stays_ready { OnOk result (T.ready out.new) }
-    ensures came { (start : T) → T.came start out.old → T.came start out.new }
+    ensures { GaveSome T.Outlet (λ q. at_zero q (things (pairs_with on.now.tree side x.now (against side sides.now.left.items sides.now.right.items)))) out.old out.new result }
 {
     let others = sides.against(side);
     if let Some(indexes) = indexes {
@@ -192,15 +160,7 @@ pub fn take<T: Outlet>(
     ensures left { OnOk result (sides.new.left.items ≡ left_with side x sides.old.left.items) }
     ensures right { OnOk result (sides.new.right.items ≡ right_with side x sides.old.right.items) }
     ensures indexes { OnOk result (MayIndex on.now.tree sides.new.left.items sides.new.right.items indexes.new) }
-    ensures given { OnOk result ((q : ℕ) → given q (T.items out.new)
-        ≡ given q (T.items out.old) ++ at_zero q (things (pairs_with on.now.tree side x (against side sides.old.left.items sides.old.right.items)))) }
-    ensures prefix { OnErr result ((q : ℕ) → IsPrefixOf (given q (T.items out.new))
-        (given q (T.items out.old) ++ at_zero q (things (pairs_with on.now.tree side x (against side sides.old.left.items sides.old.right.items))))) }
-    ensures sound { ItemsSound (T.items out.old) → ItemsSound (T.items out.new) }
-    ensures extends { IsPrefixOf (T.items out.old) (T.items out.new) }
-    ensures drops { T.drops out.new ≡ T.drops out.old }
-    ensures stays_ready { OnOk result (T.ready out.new) }
-    ensures came { (start : T) → T.came start out.old → T.came start out.new }
+    ensures gives { GaveSome T.Outlet (λ q. at_zero q (things (pairs_with on.now.tree side x (against side sides.old.left.items sides.old.right.items)))) out.old out.new result }
 {
     meet(sides, indexes, on, side, &x, out)?;
     push_last(indexes, sides, side, &x);

@@ -1,4 +1,6 @@
 pub mod GivenLemmas
+pub mod GivingLemmas
+pub mod QuietFeeds
 pub mod MachineLemmas
 pub mod StreamLemmas
 pub mod FedLemmas

@@ -3,3 +3,5 @@ pub mod Order
 pub mod Outflow
 pub mod Machine
 pub mod Streams
+pub mod Giving
+pub mod Laws

@@ -17,4 +17,4 @@ pub use laws::ports_have_their_streams;
 pub use operator::Operator;
 pub use outlet::Outlet;
 pub use outs::{Decision, Event, Outs};
-pub use tally::{Position, Tally};
+pub use tally::{Position, Tally, tick_if};

@@ -5,6 +5,8 @@ ghost use Rattle.sq_oper.specs.Entries.{entries};
 ghost use Rattle.sq_oper.specs.Order.{after_all, marked_at};
 
 use sq_item::Item;
+use sq_outside::Steps;
+use std::sync::ledger::Ledger;
 
 /// How far the merge of an operator's inputs has come: the time and the port of the last item, and whether a mark of its time was fed.
 #[derive(Clone, Copy, PartialEq, Eq, Drop)]
@@ -81,5 +83,15 @@ impl Tally {
                 self.taken += 1;
             }
         }
+    }
+}
+
+/// Counts a step where a tuple was fed.
+#[inline(always)]
+pub fn tick_if<L: Ledger>(steps: &mut Steps<L>, fed: bool)
+    ensures { steps.new ≡ steps.old + (if fed then 1 else 0) }
+{
+    if fed {
+        steps.tick();
     }
 }

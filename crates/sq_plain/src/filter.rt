@@ -2,19 +2,18 @@
 
 ghost use Rattle.std.specs.Prelude.{◌≡◌, ℕ, ◌^◌, ◌+◌, ◌<◌, ◌≤◌, ◌++◌, ◌∷◌, true, false, List, [], length, IsTrue, OnOk, OnErr};
 ghost use Rattle.sq_value.specs.declared.Value.{Value};
-ghost use Rattle.sq_words.specs.Lists.{IsPrefixOf};
 ghost use Rattle.sq_item.specs.SoundItems.{IsMark, IsBody};
 ghost use Rattle.sq_item.specs.Things.{Thing};
 ghost use Rattle.sq_lists.specs.Boxes.{filter_list_of, port_taken};
 ghost use Rattle.sq_oper.specs.declared.tally.Position.{Position};
 ghost use Rattle.sq_oper.specs.Entries.{Entry};
-ghost use Rattle.sq_oper.specs.Outflow.{given, ItemsSound};
+ghost use Rattle.sq_oper.specs.Giving.{Gave, GaveSome};
 ghost use Rattle.sq_oper.specs.Order.{IsFuture};
 ghost use Rattle.sq_oper.specs.Streams.{IsSoundTuple, things, tuples_of, at_ports_below, first_port};
 ghost use Rattle.sq_tagged.specs.TaggedStreams.{HasNoMarks, spread_of, tagged_of};
 ghost use Rattle.sq_tagged.specs.Boxes.{filter_tagged};
 ghost use Rattle.sq_tagged.specs.EntrywiseBoxes.{for_mark, for_body};
-ghost use Rattle.sq_plain.specs.Boxes.{filter_gives, filter_rest};
+ghost use Rattle.sq_plain.specs.Filters.{filter_gives, filter_rest};
 ghost use Rattle.sq_plain.specs.Ports.{MayGuess};
 ghost use Rattle.sq_expr.specs.Checking.{trees};
 
@@ -23,7 +22,7 @@ use crate::ports::Ports;
 use sq_expr::{Typed, holds};
 use sq_item::{Body, Item, Mark, Sign};
 use sq_lists::port_of_tuple;
-use sq_oper::{Decision, Operator, Outlet, Position, Tally};
+use sq_oper::{Decision, Operator, Outlet, Position, Tally, tick_if};
 use sq_outside::Steps;
 use sq_road::Levels;
 use sq_value::{Tuple, Value};
@@ -89,18 +88,10 @@ impl FilterBox {
         requires guessed { MayGuess (trees self.now.preds.items) self.now.ports }
         requires sound { IsSoundTuple tuple }
         requires is_ready { T.ready out.old }
-        ensures given { OnOk result ((q : ℕ) → given q (T.items out.new)
-            ≡ given q (T.items out.old) ++ things (filter_list_of (trees self.now.preds.items) q (tuple ∷ []))) }
-        ensures err { OnErr result ((T.items out.new) ≡ (T.items out.old)) }
-        ensures sound { ItemsSound (T.items out.old) → ItemsSound (T.items out.new) }
-        ensures extends { IsPrefixOf (T.items out.old) (T.items out.new) }
-        ensures drops { (T.drops out.new) ≡ (T.drops out.old) }
-        ensures stays_ready { OnOk result (T.ready out.new) }
-        ensures came { (start : T) → T.came start out.old → T.came start out.new }
+        ensures { Gave T.Outlet (λ q. things (filter_list_of (trees self.now.preds.items) q (tuple ∷ []))) out.old out.new result }
     {
         let port = self.port_of(&tuple) as u32;
-        give_tuple(port, tuple, out)?;
-        Ok(())
+        give_tuple(port, tuple, out)
     }
 
     // Hands a mark on to every port.
@@ -114,13 +105,7 @@ impl FilterBox {
         requires tick { time < 2 ^ 40 }
         requires mark { IsMark mark }
         requires is_ready { T.ready out.old }
-        ensures given { OnOk result ((q : ℕ) → given q (T.items out.new) ≡ given q (T.items out.old) ++ for_mark (filter_gives self.now.preds.items q) time mark) }
-        ensures prefix { OnErr result ((q : ℕ) → IsPrefixOf (given q (T.items out.new)) (given q (T.items out.old) ++ for_mark (filter_gives self.now.preds.items q) time mark)) }
-        ensures sound { ItemsSound (T.items out.old) → ItemsSound (T.items out.new) }
-        ensures extends { IsPrefixOf (T.items out.old) (T.items out.new) }
-        ensures drops { (T.drops out.new) ≡ (T.drops out.old) }
-        ensures stays_ready { OnOk result (T.ready out.new) }
-        ensures came { (start : T) → T.came start out.old → T.came start out.new }
+        ensures { GaveSome T.Outlet (λ q. for_mark (filter_gives self.now.preds.items q) time mark) out.old out.new result }
     {
         match mark {
             None => Ok(()),
@@ -134,13 +119,7 @@ impl FilterBox {
         requires tick { time < 2 ^ 40 }
         requires mark { IsMark mark.now }
         requires is_ready { T.ready out.old }
-        ensures given { OnOk result ((q : ℕ) → given q (T.items out.new) ≡ given q (T.items out.old) ++ for_mark (filter_gives self.now.preds.items q) time mark.now) }
-        ensures prefix { OnErr result ((q : ℕ) → IsPrefixOf (given q (T.items out.new)) (given q (T.items out.old) ++ for_mark (filter_gives self.now.preds.items q) time mark.now)) }
-        ensures sound { ItemsSound (T.items out.old) → ItemsSound (T.items out.new) }
-        ensures extends { IsPrefixOf (T.items out.old) (T.items out.new) }
-        ensures drops { (T.drops out.new) ≡ (T.drops out.old) }
-        ensures stays_ready { OnOk result (T.ready out.new) }
-        ensures came { (start : T) → T.came start out.old → T.came start out.new }
+        ensures { GaveSome T.Outlet (λ q. for_mark (filter_gives self.now.preds.items q) time mark.now) out.old out.new result }
     {
         self.pass_mark(time, mark.get(), out)
     }
@@ -152,13 +131,7 @@ impl FilterBox {
         requires tick { time < 2 ^ 40 }
         requires body { IsBody body }
         requires is_ready { T.ready out.old }
-        ensures given { OnOk result ((q : ℕ) → given q (T.items out.new) ≡ given q (T.items out.old) ++ for_body (filter_gives self.now.preds.items q) time body) }
-        ensures err { OnErr result ((T.items out.new) ≡ (T.items out.old)) }
-        ensures sound { ItemsSound (T.items out.old) → ItemsSound (T.items out.new) }
-        ensures extends { IsPrefixOf (T.items out.old) (T.items out.new) }
-        ensures drops { (T.drops out.new) ≡ (T.drops out.old) }
-        ensures stays_ready { OnOk result (T.ready out.new) }
-        ensures came { (start : T) → T.came start out.old → T.came start out.new }
+        ensures { Gave T.Outlet (λ q. for_body (filter_gives self.now.preds.items q) time body) out.old out.new result }
     {
         match body.get() {
             None => Ok(()),
@@ -202,9 +175,7 @@ impl Operator for FilterBox {
         let fed = item.body.is_some();
         self.pass_on(item.time, &item.mark, out)?;
         self.send_body(item.time, item.body, out)?;
-        if fed {
-            steps.tick();
-        }
+        tick_if(steps, fed);
         Ok(())
     }
 

@@ -1,27 +1,26 @@
 //! Map.
 
-ghost use Rattle.std.specs.Prelude.{◌≡◌, ℕ, ◌^◌, ◌<◌, ◌++◌, ◌∷◌, List, [], IsTrue, is_some, true, OnOk, OnErr};
+ghost use Rattle.std.specs.Prelude.{◌≡◌, ℕ, ◌^◌, ◌<◌, ◌∷◌, List, [], IsTrue, is_some, true};
 ghost use Rattle.sq_value.specs.declared.Value.{Value};
-ghost use Rattle.sq_words.specs.Lists.{IsPrefixOf};
 ghost use Rattle.sq_item.specs.SoundItems.{IsMark, IsBody};
 ghost use Rattle.sq_item.specs.Things.{Thing};
 ghost use Rattle.sq_lists.specs.Boxes.{map_list_of};
 ghost use Rattle.sq_oper.specs.declared.tally.Position.{Position};
 ghost use Rattle.sq_oper.specs.Entries.{Entry};
-ghost use Rattle.sq_oper.specs.Outflow.{given, ItemsSound};
+ghost use Rattle.sq_oper.specs.Giving.{Gave};
 ghost use Rattle.sq_oper.specs.Streams.{IsSoundTuple, things, tuples_of, at_zero, first_port};
 ghost use Rattle.sq_oper.specs.Order.{IsFuture};
 ghost use Rattle.sq_tagged.specs.TaggedStreams.{HasNoMarks, spread_of, tagged_of};
 ghost use Rattle.sq_tagged.specs.Boxes.{map_tagged};
 ghost use Rattle.sq_tagged.specs.EntrywiseBoxes.{for_mark, for_body};
-ghost use Rattle.sq_plain.specs.Boxes.{map_gives, map_rest, makes_tuple};
+ghost use Rattle.sq_plain.specs.Maps.{map_gives, map_rest, makes_tuple};
 ghost use Rattle.sq_expr.specs.Checking.{trees};
 
 use crate::give::{give_mark, give_tuple};
 use sq_expr::Typed;
 use sq_item::{Body, Item, Sign};
 use sq_lists::map_tuple;
-use sq_oper::{Decision, Operator, Outlet, Position, Tally};
+use sq_oper::{Decision, Operator, Outlet, Position, Tally, tick_if};
 use sq_outside::Steps;
 use sq_road::Levels;
 use sq_value::{Tuple, Value};
@@ -63,18 +62,10 @@ impl MapBox {
         requires few { IsTrue (makes_tuple self.now.exprs.items) }
         requires sound { IsSoundTuple tuple }
         requires is_ready { T.ready out.old }
-        ensures given { OnOk result ((q : ℕ) → given q (T.items out.new)
-            ≡ given q (T.items out.old) ++ at_zero q (things (map_list_of (trees self.now.exprs.items) (tuple ∷ [])))) }
-        ensures err { OnErr result ((T.items out.new) ≡ (T.items out.old)) }
-        ensures sound { ItemsSound (T.items out.old) → ItemsSound (T.items out.new) }
-        ensures extends { IsPrefixOf (T.items out.old) (T.items out.new) }
-        ensures drops { (T.drops out.new) ≡ (T.drops out.old) }
-        ensures stays_ready { OnOk result (T.ready out.new) }
-        ensures came { (start : T) → T.came start out.old → T.came start out.new }
+        ensures { Gave T.Outlet (λ q. at_zero q (things (map_list_of (trees self.now.exprs.items) (tuple ∷ [])))) out.old out.new result }
     {
         let made = map_tuple(*self.exprs.allocator(), &self.exprs, &tuple)?;
-        give_tuple(0, made, out)?;
-        Ok(())
+        give_tuple(0, made, out)
     }
 
     // Hands an item's mark on.
@@ -82,13 +73,7 @@ impl MapBox {
         requires tick { time < 2 ^ 40 }
         requires mark { IsMark mark.now }
         requires is_ready { T.ready out.old }
-        ensures given { OnOk result ((q : ℕ) → given q (T.items out.new) ≡ given q (T.items out.old) ++ for_mark (map_gives self.now.exprs.items q) time mark.now) }
-        ensures err { OnErr result ((T.items out.new) ≡ (T.items out.old)) }
-        ensures sound { ItemsSound (T.items out.old) → ItemsSound (T.items out.new) }
-        ensures extends { IsPrefixOf (T.items out.old) (T.items out.new) }
-        ensures drops { (T.drops out.new) ≡ (T.drops out.old) }
-        ensures stays_ready { OnOk result (T.ready out.new) }
-        ensures came { (start : T) → T.came start out.old → T.came start out.new }
+        ensures { Gave T.Outlet (λ q. for_mark (map_gives self.now.exprs.items q) time mark.now) out.old out.new result }
     {
         match mark.get() {
             None => Ok(()),
@@ -102,13 +87,7 @@ impl MapBox {
         requires tick { time < 2 ^ 40 }
         requires body { IsBody body }
         requires is_ready { T.ready out.old }
-        ensures given { OnOk result ((q : ℕ) → given q (T.items out.new) ≡ given q (T.items out.old) ++ for_body (map_gives self.now.exprs.items q) time body) }
-        ensures err { OnErr result ((T.items out.new) ≡ (T.items out.old)) }
-        ensures sound { ItemsSound (T.items out.old) → ItemsSound (T.items out.new) }
-        ensures extends { IsPrefixOf (T.items out.old) (T.items out.new) }
-        ensures drops { (T.drops out.new) ≡ (T.drops out.old) }
-        ensures stays_ready { OnOk result (T.ready out.new) }
-        ensures came { (start : T) → T.came start out.old → T.came start out.new }
+        ensures { Gave T.Outlet (λ q. for_body (map_gives self.now.exprs.items q) time body) out.old out.new result }
     {
         match body.get() {
             None => Ok(()),
@@ -152,9 +131,7 @@ impl Operator for MapBox {
         let fed = item.body.is_some();
         self.pass_on(item.time, &item.mark, out)?;
         self.send_body(item.time, item.body, out)?;
-        if fed {
-            steps.tick();
-        }
+        tick_if(steps, fed);
         Ok(())
     }
 

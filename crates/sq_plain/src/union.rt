@@ -4,14 +4,13 @@ ghost use Rattle.std.specs.Prelude.{◌≡◌, ℕ, ◌^◌, ◌<◌, ◌==◌, 
 ghost use Rattle.std.specs.List.{AllByRecursion};
 ghost use Rattle.sq_value.specs.declared.Tuple.{Tuple};
 ghost use Rattle.sq_value.specs.declared.Value.{Value};
-ghost use Rattle.sq_words.specs.Lists.{IsPrefixOf};
 ghost use Rattle.sq_value.specs.Values.{IsStream};
 ghost use Rattle.sq_item.specs.SoundItems.{IsMark, IsBody};
 ghost use Rattle.sq_item.specs.Things.{Thing, mark_part, body_part};
 ghost use Rattle.sq_lists.specs.Merge.{union};
 ghost use Rattle.sq_oper.specs.declared.tally.Position.{Position};
 ghost use Rattle.sq_oper.specs.Entries.{Entry, at_port};
-ghost use Rattle.sq_oper.specs.Outflow.{given, ItemsSound};
+ghost use Rattle.sq_oper.specs.Giving.{Gave};
 ghost use Rattle.sq_oper.specs.Machine.{next_all, gives_all};
 ghost use Rattle.sq_oper.specs.Order.{merge, IsFuture};
 ghost use Rattle.sq_oper.specs.Streams.{things, tuples_of, at_zero};
@@ -22,7 +21,7 @@ ghost use Rattle.sq_plain.specs.Unions.{union_next, union_gives, union_rest, tak
 
 use crate::give::{give_mark, give_tuple};
 use sq_item::{Body, Item, Mark, Sign};
-use sq_oper::{Decision, Operator, Outlet, Position, Tally};
+use sq_oper::{Decision, Operator, Outlet, Position, Tally, tick_if};
 use sq_outside::Steps;
 use sq_road::Levels;
 use sq_tagged::{bound_of, lessen};
@@ -92,15 +91,8 @@ impl UnionBox {
         requires mark { IsMark (Some mark) }
         requires is_ready { T.ready out.old }
         ensures bounds { OnOk result (self.new.bounds ≡ next_all (union_next self.old.lags.items) self.old.bounds (at_port port (mark_part time (Some mark)))) }
-        ensures given { OnOk result ((q : ℕ) → given q (T.items out.new)
-            ≡ given q (T.items out.old) ++ gives_all (union_next self.old.lags.items) (union_gives self.old.marked self.old.lags.items) self.old.bounds (at_port port (mark_part time (Some mark))) q) }
-        ensures err { OnErr result ((T.items out.new) ≡ (T.items out.old)) }
+        ensures gives { Gave T.Outlet (λ q. gives_all (union_next self.old.lags.items) (union_gives self.old.marked self.old.lags.items) self.old.bounds (at_port port (mark_part time (Some mark))) q) out.old out.new result }
         ensures same { self.new ≡ record self.old { bounds = self.new.bounds } }
-        ensures sound { ItemsSound (T.items out.old) → ItemsSound (T.items out.new) }
-        ensures extends { IsPrefixOf (T.items out.old) (T.items out.new) }
-        ensures drops { (T.drops out.new) ≡ (T.drops out.old) }
-        ensures stays_ready { OnOk result (T.ready out.new) }
-        ensures came { (start : T) → T.came start out.old → T.came start out.new }
     {
         if is_seen(self.bounds.last, time) {
             return Ok(());
@@ -132,15 +124,8 @@ impl UnionBox {
         requires mark { IsMark mark.now }
         requires is_ready { T.ready out.old }
         ensures bounds { OnOk result (self.new.bounds ≡ next_all (union_next self.old.lags.items) self.old.bounds (at_port port (mark_part time mark.now))) }
-        ensures given { OnOk result ((q : ℕ) → given q (T.items out.new)
-            ≡ given q (T.items out.old) ++ gives_all (union_next self.old.lags.items) (union_gives self.old.marked self.old.lags.items) self.old.bounds (at_port port (mark_part time mark.now)) q) }
-        ensures err { OnErr result ((T.items out.new) ≡ (T.items out.old)) }
+        ensures gives { Gave T.Outlet (λ q. gives_all (union_next self.old.lags.items) (union_gives self.old.marked self.old.lags.items) self.old.bounds (at_port port (mark_part time mark.now)) q) out.old out.new result }
         ensures same { self.new ≡ record self.old { bounds = self.new.bounds } }
-        ensures sound { ItemsSound (T.items out.old) → ItemsSound (T.items out.new) }
-        ensures extends { IsPrefixOf (T.items out.old) (T.items out.new) }
-        ensures drops { (T.drops out.new) ≡ (T.drops out.old) }
-        ensures stays_ready { OnOk result (T.ready out.new) }
-        ensures came { (start : T) → T.came start out.old → T.came start out.new }
     {
         match mark.get() {
             None => Ok(()),
@@ -159,14 +144,7 @@ impl UnionBox {
         requires tick { time < 2 ^ 40 }
         requires body { IsBody body }
         requires is_ready { T.ready out.old }
-        ensures given { OnOk result ((q : ℕ) → given q (T.items out.new)
-            ≡ given q (T.items out.old) ++ gives_all (union_next self.now.lags.items) (union_gives self.now.marked self.now.lags.items) self.now.bounds (at_port port (body_part time body)) q) }
-        ensures err { OnErr result ((T.items out.new) ≡ (T.items out.old)) }
-        ensures sound { ItemsSound (T.items out.old) → ItemsSound (T.items out.new) }
-        ensures extends { IsPrefixOf (T.items out.old) (T.items out.new) }
-        ensures drops { (T.drops out.new) ≡ (T.drops out.old) }
-        ensures stays_ready { OnOk result (T.ready out.new) }
-        ensures came { (start : T) → T.came start out.old → T.came start out.new }
+        ensures { Gave T.Outlet (λ q. gives_all (union_next self.now.lags.items) (union_gives self.now.marked self.now.lags.items) self.now.bounds (at_port port (body_part time body)) q) out.old out.new result }
     {
         let _port = port;
         match body.get() {
@@ -226,9 +204,7 @@ impl Operator for UnionBox {
         let fed = item.body.is_some();
         self.pass_on(port, item.time, &item.mark, out)?;
         self.send_body(port, item.time, item.body, out)?;
-        if fed {
-            steps.tick();
-        }
+        tick_if(steps, fed);
         Ok(())
     }
 

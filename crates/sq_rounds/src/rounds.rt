@@ -1,12 +1,11 @@
 //! Giving left tuples with the answers over what is held round them.
 
-ghost use Rattle.std.specs.Prelude.{◌≡◌, ℕ, ◌+◌, ◌≤◌, ◌++◌, ◌∷◌, [], OnOk, OnErr};
+ghost use Rattle.std.specs.Prelude.{◌≡◌, ◌+◌, ◌≤◌, ◌∷◌, [], OnOk};
 ghost use Rattle.std.specs.List.{AllByRecursion};
-ghost use Rattle.sq_words.specs.Lists.{IsPrefixOf};
 ghost use Rattle.sq_lists.specs.Sides.{recent};
 ghost use Rattle.sq_lists.specs.WindowParts.{TimesNotFalling};
 ghost use Rattle.sq_lists.specs.Resamples.{resampled, resample_of};
-ghost use Rattle.sq_oper.specs.Outflow.{given, ItemsSound};
+ghost use Rattle.sq_oper.specs.Giving.{Gave, GaveSome};
 ghost use Rattle.sq_oper.specs.Streams.{things, at_zero};
 ghost use Rattle.sq_rounds.specs.Rounds.{CanGive, HasFieldRoom, first_time_from, passed};
 ghost use Rattle.sq_running.specs.Running.{IsRunning, IsSum};
@@ -36,14 +35,7 @@ fn give_round<F: Fold, T: Outlet>(
     requires is_ready { T.ready out.old }
     ensures held { OnOk result (held.new.tuples.items ≡ recent size x.time held.old.tuples.items) }
     ensures runs { OnOk result (IsRunning (IsSum (F.joined fold.now) (F.unit fold.now) (F.none fold.now) (F.made fold.now) (F.number fold.now)) held.new.tuples.items held.new.heads.items held.new.tail) }
-    ensures given { OnOk result ((q : ℕ) → given q (T.items out.new)
-        ≡ given q (T.items out.old) ++ at_zero q (things (resampled (F.table fold.now) size held.old.tuples.items x ∷ []))) }
-    ensures err { OnErr result (T.items out.new ≡ T.items out.old) }
-    ensures sound { ItemsSound (T.items out.old) → ItemsSound (T.items out.new) }
-    ensures extends { IsPrefixOf (T.items out.old) (T.items out.new) }
-    ensures drops { T.drops out.new ≡ T.drops out.old }
-    ensures stays_ready { OnOk result (T.ready out.new) }
-    ensures came { (start : T) → T.came start out.old → T.came start out.new }
+    ensures gives { Gave T.Outlet (λ q. at_zero q (things (resampled (F.table fold.now) size held.old.tuples.items x ∷ []))) out.old out.new result }
 {
     let_go(fold, held, size, x.time)?;
     let answers = answers_held(fold, held)?;
@@ -76,15 +68,7 @@ pub fn give_ready<F: Fold, T: Outlet>(
     ensures waiting { OnOk result (waiting.new.items ≡ recent size now waiting.old.items) }
     ensures held { OnOk result (held.new.tuples.items ≡ recent size (first_time_from now (recent size now waiting.old.items)) held.old.tuples.items) }
     ensures runs { OnOk result (IsRunning (IsSum (F.joined fold.now) (F.unit fold.now) (F.none fold.now) (F.made fold.now) (F.number fold.now)) held.new.tuples.items held.new.heads.items held.new.tail) }
-    ensures given { OnOk result ((q : ℕ) → given q (T.items out.new)
-        ≡ given q (T.items out.old) ++ at_zero q (things (resample_of (F.table fold.now) size (passed size now waiting.old.items) held.old.tuples.items))) }
-    ensures prefix { OnErr result ((q : ℕ) → IsPrefixOf (given q (T.items out.new))
-        (given q (T.items out.old) ++ at_zero q (things (resample_of (F.table fold.now) size (passed size now waiting.old.items) held.old.tuples.items)))) }
-    ensures sound { ItemsSound (T.items out.old) → ItemsSound (T.items out.new) }
-    ensures extends { IsPrefixOf (T.items out.old) (T.items out.new) }
-    ensures drops { T.drops out.new ≡ T.drops out.old }
-    ensures stays_ready { OnOk result (T.ready out.new) }
-    ensures came { (start : T) → T.came start out.old → T.came start out.new }
+    ensures gives { GaveSome T.Outlet (λ q. at_zero q (things (resample_of (F.table fold.now) size (passed size now waiting.old.items) held.old.tuples.items))) out.old out.new result }
 {
     while let Some(x) = pop_past(waiting, size, now) {
         give_round(fold, size, x, held, out)?;
@@ -105,15 +89,7 @@ pub fn give_all<F: Fold, T: Outlet>(
     requires runs { IsRunning (IsSum (F.joined fold.now) (F.unit fold.now) (F.none fold.now) (F.made fold.now) (F.number fold.now)) held.old.tuples.items held.old.heads.items held.old.tail }
     requires is_ready { T.ready out.old }
     ensures waiting { OnOk result (waiting.new.items ≡ []) }
-    ensures given { OnOk result ((q : ℕ) → given q (T.items out.new)
-        ≡ given q (T.items out.old) ++ at_zero q (things (resample_of (F.table fold.now) size waiting.old.items held.old.tuples.items))) }
-    ensures prefix { OnErr result ((q : ℕ) → IsPrefixOf (given q (T.items out.new))
-        (given q (T.items out.old) ++ at_zero q (things (resample_of (F.table fold.now) size waiting.old.items held.old.tuples.items)))) }
-    ensures sound { ItemsSound (T.items out.old) → ItemsSound (T.items out.new) }
-    ensures extends { IsPrefixOf (T.items out.old) (T.items out.new) }
-    ensures drops { T.drops out.new ≡ T.drops out.old }
-    ensures stays_ready { OnOk result (T.ready out.new) }
-    ensures came { (start : T) → T.came start out.old → T.came start out.new }
+    ensures gives { GaveSome T.Outlet (λ q. at_zero q (things (resample_of (F.table fold.now) size waiting.old.items held.old.tuples.items))) out.old out.new result }
 {
     while let Some(x) = waiting.pop_front() {
         give_round(fold, size, x, held, out)?;

@@ -20,7 +20,7 @@ use Rattle.sq_oper.specs.Order.{IsFuture, unmarked}
 use Rattle.sq_oper.specs.Streams.{tuple_in, tuples_at, tuples_of, things, at_zero, at_ports_below}
 use Rattle.sq_tagged.specs.TaggedStreams.{HasNoMarks, spread_of, tagged_of, below_bounds}
 use Rattle.sq_tagged.specs.Boxes.{filter_tagged, map_tagged, united_tagged, aggregate_tagged}
-use Rattle.sq_plain.specs.Boxes.{makes_tuple}
+use Rattle.sq_plain.specs.Maps.{makes_tuple}
 use Rattle.sq_agg.specs.Holdings.{makes_result}
 use Rattle.sq_join.specs.Elements.{elements_of, side_of}
 use Rattle.sq_join.specs.Sides.{join_fits}

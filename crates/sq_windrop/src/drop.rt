@@ -8,16 +8,19 @@ ghost use Rattle.sq_item.specs.Things.{Thing, body_part};
 ghost use Rattle.sq_road.specs.Levels.{AgreesWith};
 ghost use Rattle.sq_oper.specs.declared.tally.Position.{Position};
 ghost use Rattle.sq_oper.specs.Entries.{Entry, entries};
-ghost use Rattle.sq_oper.specs.Outflow.{given, ItemsSound, ThingsUpTo};
-ghost use Rattle.sq_oper.specs.Order.{IsFuture, unmarked, after_all};
+ghost use Rattle.sq_oper.specs.Outflow.{given};
+ghost use Rattle.sq_oper.specs.Giving.{Gave, KeepsGiven};
+ghost use Rattle.sq_oper.specs.Laws.{Feeds};
+ghost use Rattle.sq_oper.specs.Order.{IsFuture, unmarked};
 ghost use Rattle.sq_oper.specs.Streams.{at_zero, tuples_of, port_fits};
 ghost use Rattle.sq_tagged.specs.TaggedStreams.{mark_thing, spread_of};
 ghost use Rattle.sq_tagged.specs.Boxes.{drop_tagged, batches_touched, until_at};
+ghost use Rattle.sq_windrop.specs.Meanings.{drop_meaning};
 ghost use Rattle.sq_windrop.specs.Drops.{IsDropping, IsBegunAlone, dropping, level_at, needed_of, for_tuple, is_batch_dropped, drop_mark, marks_for, decided, bound_of, first_new, newly, after_tuple, next_body, gives_body, decided_body, drop_rest, drop_decides, drop_reads, none_lost};
 
 use crate::give::give_item;
 use sq_item::{Body, Item, Mark, Sign};
-use sq_oper::{Decision, Operator, Outlet, Position, Tally};
+use sq_oper::{Decision, Operator, Outlet, Position, Tally, tick_if};
 use sq_outside::Steps;
 use sq_road::{Levels, draw};
 use sq_tagged::bound_of;
@@ -130,12 +133,9 @@ fn give_batch<T: Outlet>(
     ensures drops { OnOk result ((T.drops out.new) ≡ (T.drops out.old) ++ option_to_list decision) }
     ensures prefix { OnErr result ((q : ℕ) → IsPrefixOf (given q (T.items out.new)) (given q (T.items out.old) ++ at_zero q (mark_thing (time, mark) ∷ body_part time body))) }
     ensures drops_err { OnErr result ((T.drops out.new) ≡ (T.drops out.old)) }
-    ensures sound { ItemsSound (T.items out.old) → ItemsSound (T.items out.new) }
-    ensures extends { IsPrefixOf (T.items out.old) (T.items out.new) }
-    ensures keeps { IsPrefixOf (T.drops out.old) (T.drops out.new) }
+    ensures keeps { KeepsGiven T.Outlet out.old out.new }
     ensures one { length (T.items out.new) ≤ length (T.items out.old) + 1 }
     ensures stays_ready { OnOk result (T.ready out.new) }
-    ensures came { (start : T) → T.came start out.old → T.came start out.new }
 {
     give_item(
         Item {
@@ -173,12 +173,9 @@ fn decide<T: Outlet>(
     ensures prefix { OnErr result ((table : ℕ → ℕ → ℕ) → AgreesWith levels.now table → (q : ℕ)
         → IsPrefixOf (given q (T.items out.new)) (given q (T.items out.old) ++ at_zero q (mark_thing (drop_mark with.now table batch) ∷ []))) }
     ensures drops_err { OnErr result ((T.drops out.new) ≡ (T.drops out.old)) }
-    ensures sound { ItemsSound (T.items out.old) → ItemsSound (T.items out.new) }
-    ensures extends { IsPrefixOf (T.items out.old) (T.items out.new) }
-    ensures keeps { IsPrefixOf (T.drops out.old) (T.drops out.new) }
+    ensures keeps { KeepsGiven T.Outlet out.old out.new }
     ensures few { length (T.items out.new) ≤ length (T.items out.old) + 1 }
     ensures stays_ready { OnOk result (T.ready out.new) }
-    ensures came { (start : T) → T.came start out.old → T.came start out.new }
 {
     let start = batch * with.length;
     let level = levels.level(start / with.epoch, with.number);
@@ -217,12 +214,9 @@ fn touch_each<T: Outlet>(
         → IsPrefixOf (given q (T.items out.new)) (given q (T.items out.old) ++ at_zero q (map mark_thing (marks_for with.now table (newly with.now batches.old.next time))))) }
     ensures drops_prefix { OnErr result ((table : ℕ → ℕ → ℕ) → AgreesWith levels.now table
         → IsPrefixOf (T.drops out.new) ((T.drops out.old) ++ decided with.now table (newly with.now batches.old.next time))) }
-    ensures sound { ItemsSound (T.items out.old) → ItemsSound (T.items out.new) }
-    ensures extends { IsPrefixOf (T.items out.old) (T.items out.new) }
-    ensures keeps { IsPrefixOf (T.drops out.old) (T.drops out.new) }
+    ensures keeps { KeepsGiven T.Outlet out.old out.new }
     ensures few { length (T.items out.new) ≤ length (T.items out.old) + length (newly with.now batches.old.next time) }
     ensures stays_ready { OnOk result (T.ready out.new) }
-    ensures came { (start : T) → T.came start out.old → T.came start out.new }
 {
     let end = time / with.length + 1;
     let from = first_new(with, batches.next, time);
@@ -287,12 +281,9 @@ fn begin_batch<T: Outlet>(
     ensures prefix { OnErr result ((table : ℕ → ℕ → ℕ) → AgreesWith levels.now table → (q : ℕ)
         → IsPrefixOf (given q (T.items out.new)) (given q (T.items out.old) ++ at_zero q (for_tuple with.now table batches.old time fields))) }
     ensures drops_err { OnErr result ((T.drops out.new) ≡ (T.drops out.old)) }
-    ensures sound { ItemsSound (T.items out.old) → ItemsSound (T.items out.new) }
-    ensures extends { IsPrefixOf (T.items out.old) (T.items out.new) }
-    ensures keeps { IsPrefixOf (T.drops out.old) (T.drops out.new) }
+    ensures keeps { KeepsGiven T.Outlet out.old out.new }
     ensures one { length (T.items out.new) ≤ length (T.items out.old) + 1 }
     ensures stays_ready { OnOk result (T.ready out.new) }
-    ensures came { (start : T) → T.came start out.old → T.came start out.new }
 {
     let level = levels.level(time / with.epoch, with.number);
     let (mark, decision) = draw_batch(with, batch, level);
@@ -317,14 +308,8 @@ fn give_needed<T: Outlet>(
     requires tick { time < 2 ^ 40 }
     requires body { IsBody (Some fields) }
     requires is_ready { T.ready out.old }
-    ensures given { OnOk result ((q : ℕ) → given q (T.items out.new) ≡ given q (T.items out.old) ++ at_zero q (body_part time (needed_of time bound fields))) }
-    ensures err { OnErr result ((T.items out.new) ≡ (T.items out.old)) }
-    ensures sound { ItemsSound (T.items out.old) → ItemsSound (T.items out.new) }
-    ensures extends { IsPrefixOf (T.items out.old) (T.items out.new) }
-    ensures drops { (T.drops out.new) ≡ (T.drops out.old) }
+    ensures gives { Gave T.Outlet (λ q. at_zero q (body_part time (needed_of time bound fields))) out.old out.new result }
     ensures one { length (T.items out.new) ≤ length (T.items out.old) + 1 }
-    ensures stays_ready { OnOk result (T.ready out.new) }
-    ensures came { (start : T) → T.came start out.old → T.came start out.new }
 {
     if time < bound {
         return give_item(
@@ -364,13 +349,10 @@ fn take<T: Outlet>(
         → IsPrefixOf (given q (T.items out.new)) (given q (T.items out.old) ++ at_zero q (gives_body with.now table batches.old time body))) }
     ensures drops_prefix { OnErr result ((table : ℕ → ℕ → ℕ) → AgreesWith levels.now table
         → IsPrefixOf (T.drops out.new) ((T.drops out.old) ++ decided_body with.now table batches.old time body)) }
-    ensures sound { ItemsSound (T.items out.old) → ItemsSound (T.items out.new) }
-    ensures extends { IsPrefixOf (T.items out.old) (T.items out.new) }
-    ensures keeps { IsPrefixOf (T.drops out.old) (T.drops out.new) }
+    ensures keeps { KeepsGiven T.Outlet out.old out.new }
     ensures few { length (T.items out.new) ≤ length (T.items out.old) + 1 + length (newly with.now batches.old.next time) }
     ensures one { (batch : ℕ) → IsBegunAlone with.now batches.old.next time batch → length (T.items out.new) ≤ length (T.items out.old) + 1 }
     ensures stays_ready { OnOk result (T.ready out.new) }
-    ensures came { (start : T) → T.came start out.old → T.came start out.new }
 {
     let Some(fields) = body.get() else {
         return Ok(());
@@ -425,42 +407,12 @@ impl Operator for WinDropBox {
         requires has_level { item.time / levels.now.epoch < levels.now.closed }
         requires has_room { is_some item.body ≡ true → self.old.tally.taken < 2 ^ 62 - 1 }
         requires is_ready { T.ready out.old }
-        ensures law { OnOk result ((table : ℕ → ℕ → ℕ) (future : List Entry) → AgreesWith levels.now table
-            → IsFuture (unmarked) (port_fits) (self.old.tally.place) (entries port item ++ future)
-            → (q : ℕ) → given q (T.items out.old) ++ drop_rest self.old.with table self.old.batches (entries port item ++ future) q
-            ≡ given q (T.items out.new) ++ drop_rest self.new.with table self.new.batches future q) }
-        ensures decided { OnOk result ((table : ℕ → ℕ → ℕ) (future : List Entry) → AgreesWith levels.now table
-            → IsFuture (unmarked) (port_fits) (self.old.tally.place) (entries port item ++ future)
-            → (T.drops out.old) ++ drop_decides self.old.with table self.old.batches (entries port item ++ future)
-            ≡ (T.drops out.new) ++ drop_decides self.new.with table self.new.batches future) }
-        ensures loses { OnOk result ((future : List Entry) → none_lost (entries port item ++ future) ≡ none_lost future) }
-        ensures extends { IsPrefixOf (T.items out.old) (T.items out.new) }
-        ensures keeps_decisions { IsPrefixOf (T.drops out.old) (T.drops out.new) }
-        ensures prefix { OnErr result ((table : ℕ → ℕ → ℕ) (future : List Entry) → AgreesWith levels.now table
-            → IsFuture (unmarked) (port_fits) (self.old.tally.place) (entries port item ++ future)
-            → (q : ℕ) → IsPrefixOf (given q (T.items out.new)) (given q (T.items out.old) ++ drop_rest self.old.with table self.old.batches (entries port item ++ future) q)) }
-        ensures decided_prefix { OnErr result ((table : ℕ → ℕ → ℕ) (future : List Entry) → AgreesWith levels.now table
-            → IsFuture (unmarked) (port_fits) (self.old.tally.place) (entries port item ++ future)
-            → IsPrefixOf (T.drops out.new) ((T.drops out.old) ++ drop_decides self.old.with table self.old.batches (entries port item ++ future))) }
-        ensures times { OnOk result ((table : ℕ → ℕ → ℕ) → AgreesWith levels.now table → (q : ℕ) → ThingsUpTo item.time (drop_rest self.old.with table self.old.batches (entries port item) q)) }
-        ensures sound { ItemsSound (T.items out.old) → ItemsSound (T.items out.new) }
-        ensures held { OnOk result ((table : ℕ → ℕ → ℕ) (q : ℕ) → drop_rest self.new.with table self.new.batches [] q ≡ []) }
-        ensures same_hold { OnOk result ((time : ℕ) (things : List Thing) → things ≡ [] → things ≡ []) }
-        ensures settled { OnOk result ((table : ℕ → ℕ → ℕ) → drop_decides self.new.with table self.new.batches [] ≡ []) }
-        ensures stays_valid { OnOk result (IsDropping self.new.with × IsTrue (self.new.tally.running)) }
-        ensures moves { OnOk result (self.new.tally.place ≡ after_all (self.old.tally.place) (entries port item)) }
-        ensures same { OnOk result ((unmarked ≡ unmarked) × (port_fits ≡ port_fits)) }
-        ensures same_epoch { OnOk result (drop_reads self.new.with ≡ drop_reads self.old.with) }
-        ensures counted { OnOk result (self.new.tally.taken ≡ self.old.tally.taken + (if is_some item.body then 1 else 0)) }
-        ensures cost { OnOk result (steps.new ≡ steps.old + (if is_some item.body then 1 else 0)) }
-        ensures no_cost { OnErr result (steps.new ≡ steps.old) }
+        ensures feeds { Feeds T.Outlet levels.now port item (drop_meaning self.old) (drop_meaning self.new) out.old out.new steps.old steps.new result }
         // A drop appends the marks of few batches at once, one for each batch that a tuple is the first to touch; where the tuple begins
         // the one such batch, its mark is one item with the tuple.
         ensures few { length (T.items out.new) ≤ length (T.items out.old) + 4098 }
         ensures each { length (T.items out.new) ≤ length (T.items out.old) + 1 + length (newly self.old.with self.old.batches.next item.time) }
         ensures one { (batch : ℕ) → IsBegunAlone self.old.with self.old.batches.next item.time batch → length (T.items out.new) ≤ length (T.items out.old) + 1 }
-        ensures stays_ready { OnOk result (T.ready out.new) }
-        ensures came { (start : T) → T.came start out.old → T.came start out.new }
     {
         self.tally.note(port, &item);
         let fed = item.body.is_some();
@@ -472,9 +424,7 @@ impl Operator for WinDropBox {
             &mut self.batches,
             out,
         )?;
-        if fed {
-            steps.tick();
-        }
+        tick_if(steps, fed);
         Ok(())
     }
 

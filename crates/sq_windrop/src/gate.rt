@@ -2,12 +2,11 @@
 
 ghost use Rattle.std.specs.Prelude.{◌≡◌, ℕ, ◌^◌, ◌*◌, ◌/◌, ◌<◌, ◌==◌, ◌++◌, true, false, List, [], None, Some, length, IsTrue, OnOk, OnErr};
 ghost use Rattle.sq_value.specs.declared.Value.{Value};
-ghost use Rattle.sq_words.specs.Lists.{IsPrefixOf};
 ghost use Rattle.sq_item.specs.SoundItems.{IsBody};
 ghost use Rattle.sq_item.specs.Things.{Thing, mark_part, body_part};
 ghost use Rattle.sq_oper.specs.declared.tally.Position.{Position};
 ghost use Rattle.sq_oper.specs.Entries.{Entry, at_port};
-ghost use Rattle.sq_oper.specs.Outflow.{given, ItemsSound};
+ghost use Rattle.sq_oper.specs.Giving.{Gave};
 ghost use Rattle.sq_oper.specs.Machine.{next_all, gives_all};
 ghost use Rattle.sq_oper.specs.Order.{IsFuture};
 ghost use Rattle.sq_oper.specs.Streams.{at_zero, things, first_port};
@@ -15,7 +14,7 @@ ghost use Rattle.sq_windrop.specs.Gates.{IsLength, shows_at, gate_shown, gate_ne
 
 use crate::give::give_item;
 use sq_item::{Body, Item, Mark, Sign};
-use sq_oper::{Decision, Operator, Outlet, Position, Tally};
+use sq_oper::{Decision, Operator, Outlet, Position, Tally, tick_if};
 use sq_outside::Steps;
 use sq_road::Levels;
 use sq_value::Value;
@@ -98,14 +97,7 @@ impl GateBox {
         requires tick { time < 2 ^ 40 }
         requires body { IsBody body }
         requires is_ready { T.ready out.old }
-        ensures given { OnOk result ((q : ℕ) → given q (T.items out.new)
-            ≡ given q (T.items out.old) ++ gives_all (gate_next self.now.length) (gate_gives self.now.length) self.now.opened (at_port port (body_part time body)) q) }
-        ensures err { OnErr result ((T.items out.new) ≡ (T.items out.old)) }
-        ensures sound { ItemsSound (T.items out.old) → ItemsSound (T.items out.new) }
-        ensures extends { IsPrefixOf (T.items out.old) (T.items out.new) }
-        ensures drops { (T.drops out.new) ≡ (T.drops out.old) }
-        ensures stays_ready { OnOk result (T.ready out.new) }
-        ensures came { (start : T) → T.came start out.old → T.came start out.new }
+        ensures { Gave T.Outlet (λ q. gives_all (gate_next self.now.length) (gate_gives self.now.length) self.now.opened (at_port port (body_part time body)) q) out.old out.new result }
     {
         let _port = port;
         if let Some(fields) = body.get() {
@@ -159,9 +151,7 @@ impl Operator for GateBox {
         let fed = item.body.is_some();
         self.read_mark(port, item.time, &item.mark);
         self.show(port, item.time, item.body, out)?;
-        if fed {
-            steps.tick();
-        }
+        tick_if(steps, fed);
         Ok(())
     }
 

@@ -1,9 +1,9 @@
-use Rattle.std.proofs.Common.{◌+◌, ◌*◌, ◌^◌, ◌<◌, ◌≤◌, ◌++◌, [], subst, ap, sym, ◌∙◌, append-nil, arith}
+use Rattle.std.proofs.Common.{refl, ◌+◌, ◌*◌, ◌^◌, ◌<◌, ◌≤◌, ◌++◌, [], subst, ap, sym, ◌∙◌, append-nil, arith}
 use Rattle.std.specs.List.{AllByRecursion}
-use Rattle.std.proofs.lemmas.Result.{on_ok_weaker, on_err_weaker}
-use Rattle.sq_words.specs.Lists.{IsPrefixOf}
+use Rattle.sq_words.proofs.Prefixes.{prefix_itself}
 use Rattle.sq_aggfn.specs.Windows.{IsWindow}
 use Rattle.sq_oper.specs.Outflow.{given}
+use Rattle.sq_oper.specs.Giving.{GaveSome}
 use Rattle.sq_oper.specs.Streams.{at_zero}
 use Rattle.sq_oper.proofs.StreamLemmas.{at_zero-nil}
 use Rattle.sq_pane.specs.Panes.{shift_of}
@@ -22,37 +22,33 @@ give_marks_before-requires-clause-marks g c = sound_marks c.args.panes.now.windo
 pub returns-then-is_empty-clause-bounds : goal.returns-then-is_empty-clause-bounds
 returns-then-is_empty-clause-bounds g c = none_closed c.args.mid (bounds_of c.args.waiting.now) (none_waits _ (sym c.is_empty.ensures ∙ c.if-is_empty.true))
 
-pub returns-then-is_empty-clause-given : goal.returns-then-is_empty-clause-given
-returns-then-is_empty-clause-given g c =
+pub returns-then-is_empty-clause-gives : goal.returns-then-is_empty-clause-gives
+returns-then-is_empty-clause-gives g c =
     let p = c.args.panes.now in
     let f = folding_of [] (g.F.Fold.none p.fold) (g.F.Fold.joined p.fold) (g.F.Fold.unit p.fold) (g.F.Fold.told p.fold) in
     let x = bounds_of c.args.waiting.now in
     let told = only_marks f p.window c.requires.window p.width c.args.now c.args.ends c.args.time c.args.mid x (states_of p.held) c.requires.ends c.requires.later c.if-time-ends.true c.requires.mid c.requires.waits in
     let nothing = ap (λ ms. due_before f.told c.args.mid ms []) (none_waits x.waiting (sym c.is_empty.ensures ∙ c.if-is_empty.true)) in
-    λ q.
-    let items = given q (g.T.Outlet.items c.args.out.now) in
-    sym (append-nil items) ∙ ap (λ l. items ++ l) (sym (ap (at_zero q) (told ∙ nothing) ∙ at_zero-nil q))
+    record {
+      prefix = tt;
+      given = λ q.
+          let items = given q (g.T.Outlet.items c.args.out.now) in
+          sym (append-nil items) ∙ ap (λ l. items ++ l) (sym (ap (at_zero q) (told ∙ nothing) ∙ at_zero-nil q));
+      sound = λ h. h;
+      extends = prefix_itself _;
+      drops = refl;
+      stays_ready = c.requires.is_ready;
+      came = λ start h. h;
+    }
 
-pub returns-then-time-ends-clause-given : goal.returns-then-time-ends-clause-given
-returns-then-time-ends-clause-given g c =
+pub returns-then-time-ends-clause-gives : goal.returns-then-time-ends-clause-gives
+returns-then-time-ends-clause-gives g c =
     let p = c.args.panes.now in
     let f = folding_of [] (g.F.Fold.none p.fold) (g.F.Fold.joined p.fold) (g.F.Fold.unit p.fold) (g.F.Fold.told p.fold) in
     let x = bounds_of c.args.waiting.now in
     let told = only_marks f p.window c.requires.window p.width c.args.now c.args.ends c.args.time c.args.mid x (states_of p.held) c.requires.ends c.requires.later c.if-time-ends.true c.requires.mid c.requires.waits in
-    on_ok_weaker c.give_marks_before.result
-    (λ e q. e q ∙ ap (λ l. given q (g.T.Outlet.items c.args.out.now) ++ at_zero q l) (sym (due_alone f.told c.args.mid x.waiting) ∙ sym told))
-    c.give_marks_before.ensures.given
-
-pub returns-then-time-ends-clause-prefix : goal.returns-then-time-ends-clause-prefix
-returns-then-time-ends-clause-prefix g c =
-    let p = c.args.panes.now in
-    let f = folding_of [] (g.F.Fold.none p.fold) (g.F.Fold.joined p.fold) (g.F.Fold.unit p.fold) (g.F.Fold.told p.fold) in
-    let x = bounds_of c.args.waiting.now in
-    let told = only_marks f p.window c.requires.window p.width c.args.now c.args.ends c.args.time c.args.mid x (states_of p.held) c.requires.ends c.requires.later c.if-time-ends.true c.requires.mid c.requires.waits in
-    on_err_weaker c.give_marks_before.result
-    (λ e q. subst (IsPrefixOf (given q (g.T.Outlet.items c.give_marks_before.new.out)))
-    (ap (λ l. given q (g.T.Outlet.items c.args.out.now) ++ at_zero q l) (sym (due_alone f.told c.args.mid x.waiting) ∙ sym told)) (e q))
-    c.give_marks_before.ensures.prefix
+    subst (λ l. GaveSome g.T.Outlet (λ q. at_zero q l) c.args.out.now c.give_marks_before.new.out c.give_marks_before.result) (sym (due_alone f.told c.args.mid x.waiting) ∙ sym told)
+    c.give_marks_before.ensures.gives
 
 pub give_open-requires-clause-window : goal.give_open-requires-clause-window
 give_open-requires-clause-window g c = subst (λ z. IsWindow z.window) (sym c.put_in_order.ensures) c.requires.window
@@ -89,20 +85,9 @@ give_open-requires-clause-later g c =
     let mid = c.requires.mid in
     omega (arith, size, later, mid)
 
-pub returns-clause-given : goal.returns-clause-given
-returns-clause-given g c =
-    on_ok_weaker c.give_open.result
-    (λ e q. e q
-    ∙ ap (λ z. given q (g.T.Outlet.items c.args.out.now)
-    ++ at_zero q (told_open (folding_of [] (g.F.Fold.none z.fold) (g.F.Fold.joined z.fold) (g.F.Fold.unit z.fold) (g.F.Fold.told z.fold)) z.window z.width c.args.now c.args.mid (bounds_of c.args.waiting.now) (states_of z.held)))
-    c.put_in_order.ensures)
-    c.give_open.ensures.given
-
-pub returns-clause-prefix : goal.returns-clause-prefix
-returns-clause-prefix g c =
-    on_err_weaker c.give_open.result
-    (λ e q. subst (λ z. IsPrefixOf (given q (g.T.Outlet.items c.give_open.new.out))
-    (given q (g.T.Outlet.items c.args.out.now)
-    ++ at_zero q (told_open (folding_of [] (g.F.Fold.none z.fold) (g.F.Fold.joined z.fold) (g.F.Fold.unit z.fold) (g.F.Fold.told z.fold)) z.window z.width c.args.now c.args.mid (bounds_of c.args.waiting.now) (states_of z.held))))
-    c.put_in_order.ensures (e q))
-    c.give_open.ensures.prefix
+pub returns-clause-gives : goal.returns-clause-gives
+returns-clause-gives g c =
+    subst (λ z. GaveSome g.T.Outlet
+    (λ q. at_zero q (told_open (folding_of [] (g.F.Fold.none z.fold) (g.F.Fold.joined z.fold) (g.F.Fold.unit z.fold) (g.F.Fold.told z.fold)) z.window z.width c.args.now c.args.mid (bounds_of c.args.waiting.now) (states_of z.held)))
+    c.args.out.now c.give_open.new.out c.give_open.result)
+    c.put_in_order.ensures c.give_open.ensures.gives

@@ -5,6 +5,7 @@ use Rattle.sq_value.specs.declared.Value.{Value}
 use Rattle.sq_oper.specs.Outflow.{given}
 use Rattle.sq_oper.specs.Streams.{at_zero, things}
 use Rattle.sq_oper.proofs.GivenLemmas.{IsPrefixOf-append}
+use Rattle.sq_oper.proofs.GivingLemmas.{no_ok, none-went, some-rest}
 use Rattle.sq_oper.proofs.StreamLemmas.{at_zero-append, at_zero-nil}
 use Rattle.sq_pane.specs.Panes.{lent_group, window_from}
 use Rattle.sq_rows.specs.Rows.{AllAreMade}
@@ -15,11 +16,20 @@ use Rattle.sq_agg.proofs.results.give_results.Goals as goal
 use Rattle.sq_words.proofs.Prefixes.{prefix_along, prefix_itself}
 use Rattle.sq_words.proofs.Results.{OnErr_from}
 
-pub returns-in_err-groups-clause-prefix : goal.returns-in_err-groups-clause-prefix
-returns-in_err-groups-clause-prefix g c =
+pub returns-in_err-groups : goal.returns-in_err-groups
+returns-in_err-groups g c =
     let p = c.args.panes.now in
     let groups = window_from (g.F.Fold.none p.fold) (g.F.Fold.joined p.fold) p.window p.width c.args.start [] (states_of p.held) in
-    OnErr_from c.from_residual.result (λ q. IsPrefixOf-append (given q (g.T.Outlet.items c.args.out.now)) (at_zero q (things (results_of (g.F.Fold.told p.fold) (tagged c.args.start groups)))))
+    let r = c.from_residual in
+    record {
+      prefix = OnErr_from r.result (λ q. IsPrefixOf-append (given q (g.T.Outlet.items c.args.out.now)) (at_zero q (things (results_of (g.F.Fold.told p.fold) (tagged c.args.start groups)))));
+      given = no_ok _ _ r.result r.ensures.1;
+      sound = λ h. h;
+      extends = prefix_itself _;
+      drops = refl;
+      stays_ready = no_ok _ _ r.result r.ensures.1;
+      came = λ start h. h;
+    }
 
 pub loop-entry-init : goal.loop-entry-init
 loop-entry-init g c =
@@ -87,19 +97,28 @@ loop-entry-preserved g c =
       came = λ start h. e.came start (inv.came start h);
     }
 
-pub returns-in_err-give_result-clause-prefix : goal.returns-in_err-give_result-clause-prefix
-returns-in_err-give_result-clause-prefix g c =
+pub returns-in_err-give_result : goal.returns-in_err-give_result
+returns-in_err-give_result g c =
+    let inv = c.loop-entry.invariant in
+    let r = c.from_residual-in_err-give_result in
     let left = things (results_of (g.F.Fold.told c.args.panes.now.fold) (tagged c.args.start (map lent_group (drop c.loop-entry.entry-index c.deref-entry-items.result.now)))) in
-    OnErr_from c.from_residual-in_err-give_result.result (λ q. (at_zero q left, sym (ap (λ l. given q l ++ at_zero q left) c.in_err-give_result.ensures.err ∙ c.loop-entry.invariant.given q)))
+    some-rest g.T.Outlet _ (λ q. at_zero q left) _ _ _ r.result inv.given inv.sound inv.extends inv.drops inv.came
+    (none-went g.T.Outlet _ _ (λ q. at_zero q left) _ _ _ r.result r.ensures.1 c.in_err-give_result.ensures)
 
-pub returns-in_err-give_result-clause-extends : goal.returns-in_err-give_result-clause-extends
-returns-in_err-give_result-clause-extends g c = prefix_along _ _ _ c.loop-entry.invariant.extends c.give_result.ensures.extends
-
-pub returns-clause-given : goal.returns-clause-given
-returns-clause-given g c =
+pub returns : goal.returns
+returns g c =
     let out = g.T.Outlet.items c.loop-entry.out in
     let over = drop_all c.loop-entry.entry-index c.deref-entry-items.result.now c.loop-entry-test.false in
-    λ q.
-    sym (append-nil (given q out))
-    ∙ ap (λ l. given q out ++ l) (sym (ap (λ ls. at_zero q (things (results_of (g.F.Fold.told c.args.panes.now.fold) (tagged c.args.start (map lent_group ls))))) over ∙ at_zero-nil q))
-    ∙ c.loop-entry.invariant.given q
+    let inv = c.loop-entry.invariant in
+    record {
+      prefix = tt;
+      given = λ q.
+          sym (append-nil (given q out))
+          ∙ ap (λ l. given q out ++ l) (sym (ap (λ ls. at_zero q (things (results_of (g.F.Fold.told c.args.panes.now.fold) (tagged c.args.start (map lent_group ls))))) over ∙ at_zero-nil q))
+          ∙ inv.given q;
+      sound = inv.sound;
+      extends = inv.extends;
+      drops = inv.drops;
+      stays_ready = inv.ready;
+      came = inv.came;
+    }

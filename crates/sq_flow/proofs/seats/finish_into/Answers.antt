@@ -11,11 +11,11 @@ finish-done-requires-clause-is_ready g c = c.requires.gives
 
 pub returns-in-Ok-clause-finished : goal.returns-in-Ok-clause-finished
 returns-in-Ok-clause-finished g c =
-    let came = came-open g.D.PageDisk.log g.D.PageDisk.faults _ _ c.requires.gives c.new-given.ensures c.new-noted.ensures c.finish-done.ensures.came in
+    let came = came-open g.D.PageDisk.log g.D.PageDisk.faults _ _ c.requires.gives c.new-given.ensures c.new-noted.ensures c.finish-done.ensures.keeps.came in
     let queues = came.holds.queues in
     let disk = came.holds.disk in
     let events = came.holds.events in
-    let told = c.in-Ok.ensures in
+    let told = c.in-Ok.ensures.ok in
     let none = ap (λ (i : FedItems). i.items) c.new-given.ensures in
     ends-into g.D.PageDisk.log g.D.PageDisk.faults _ _ _ _ _ came _ _ _ (search rules) (search rules) (search rules) (told.stays_ready.passes 0).whole
     (record {
@@ -24,7 +24,7 @@ returns-in-Ok-clause-finished g c =
       loses = told.loses;
       empty = told.empty;
       settled = told.settled;
-      sound = told.sound (rw none tt);
+      sound = c.in-Ok.ensures.keeps.sound (rw none tt);
       after =
           record {
             is_valid = told.stays_valid.0;
@@ -42,9 +42,9 @@ returns-in-Ok-clause-finished g c =
 
 pub returns-in-Err-clause-part : goal.returns-in-Err-clause-part
 returns-in-Err-clause-part g c =
-    let came = came-open g.D.PageDisk.log g.D.PageDisk.faults _ _ c.requires.gives c.new-given.ensures c.new-noted.ensures c.finish-done.ensures.came in
+    let came = came-open g.D.PageDisk.log g.D.PageDisk.faults _ _ c.requires.gives c.new-given.ensures c.new-noted.ensures c.finish-done.ensures.keeps.came in
     let events = came.holds.events in
-    let told = c.in-Err.ensures in
+    let told = c.in-Err.ensures.err in
     let none = ap (λ (i : FedItems). i.items) c.new-given.ensures in
     record {
       items = c.finish-done.new.out.given.items;
@@ -57,19 +57,19 @@ returns-in-Err-clause-part g c =
 
 pub returns-in-Ok-clause-disk : goal.returns-in-Ok-clause-disk
 returns-in-Ok-clause-disk g c =
-    let came = came-open g.D.PageDisk.log g.D.PageDisk.faults _ _ c.requires.gives c.new-given.ensures c.new-noted.ensures c.finish-done.ensures.came in
+    let came = came-open g.D.PageDisk.log g.D.PageDisk.faults _ _ c.requires.gives c.new-given.ensures c.new-noted.ensures c.finish-done.ensures.keeps.came in
     let disk = came.holds.disk in
     let grows = came.grows in search rules
 
 pub returns-in-Err-clause-disk : goal.returns-in-Err-clause-disk
 returns-in-Err-clause-disk g c =
-    let came = came-open g.D.PageDisk.log g.D.PageDisk.faults _ _ c.requires.gives c.new-given.ensures c.new-noted.ensures c.finish-done.ensures.came in
+    let came = came-open g.D.PageDisk.log g.D.PageDisk.faults _ _ c.requires.gives c.new-given.ensures c.new-noted.ensures c.finish-done.ensures.keeps.came in
     let disk = came.holds.disk in
     let grows = came.grows in search rules
 
 pub returns-in-Err-clause-fails : goal.returns-in-Err-clause-fails
 returns-in-Err-clause-fails g c =
-    let came = came-open g.D.PageDisk.log g.D.PageDisk.faults _ _ c.requires.gives c.new-given.ensures c.new-noted.ensures c.finish-done.ensures.came in
+    let came = came-open g.D.PageDisk.log g.D.PageDisk.faults _ _ c.requires.gives c.new-given.ensures c.new-noted.ensures c.finish-done.ensures.keeps.came in
     let queues = came.holds.queues in
     let disk = came.holds.disk in
     let failed = came.holds.failed in
@@ -77,6 +77,6 @@ returns-in-Err-clause-fails g c =
 
 pub returns-in-Ok-clause-whole : goal.returns-in-Ok-clause-whole
 returns-in-Ok-clause-whole g c =
-    let came = came-open g.D.PageDisk.log g.D.PageDisk.faults _ _ c.requires.gives c.new-given.ensures c.new-noted.ensures c.finish-done.ensures.came in
+    let came = came-open g.D.PageDisk.log g.D.PageDisk.faults _ _ c.requires.gives c.new-given.ensures c.new-noted.ensures c.finish-done.ensures.keeps.came in
     let failed = came.holds.failed in
-    let whole = (c.in-Ok.ensures.stays_ready.passes 0).whole in search rules
+    let whole = (c.in-Ok.ensures.ok.stays_ready.passes 0).whole in search rules

@@ -8,7 +8,7 @@ use Rattle.sq_lists.specs.Sides.{pair_at, pairs_with}
 use Rattle.sq_join.specs.Indexes.{positions_in, positions_in_row}
 use Rattle.sq_join.proofs.IndexLemmas.{row-pairs, row-all, row-within, tuples-step, given-step, standing_at}
 use Rattle.sq_join.proofs.sides.give_pairs_in_row.Goals as goal
-use Rattle.sq_words.proofs.Results.{OnErr_from}
+use Rattle.sq_oper.proofs.GivingLemmas.{none-went, some-rest}
 use Rattle.sq_words.proofs.Prefixes.{prefix_along}
 
 pub loop-i-init : goal.loop-i-init
@@ -29,11 +29,13 @@ loop-i-init g c =
       came = search rules;
     }
 
-pub returns-in_err-give_pair-clause-prefix : goal.returns-in_err-give_pair-clause-prefix
-returns-in_err-give_pair-clause-prefix g c =
-    OnErr_from c.from_residual.result (λ q.
-    let left = at_zero q (things (pairs_with c.args.on.now.tree c.args.side c.args.x.now (standing_at c.args.index.now.first c.args.others.now.items (drop c.loop-i.i c.index.result.now.items)))) in
-    (left, sym (ap (λ l. given q l ++ left) c.in_err-give_pair.ensures.err ∙ c.loop-i.invariant.given q)))
+pub returns-in_err-give_pair : goal.returns-in_err-give_pair
+returns-in_err-give_pair g c =
+    let inv = c.loop-i.invariant in
+    let r = c.from_residual in
+    let left = λ (q : ℕ). at_zero q (things (pairs_with c.args.on.now.tree c.args.side c.args.x.now (standing_at c.args.index.now.first c.args.others.now.items (drop c.loop-i.i c.index.result.now.items)))) in
+    some-rest g.T.Outlet _ left _ _ _ r.result inv.given inv.sound inv.extends inv.drops inv.came
+    (none-went g.T.Outlet _ _ left _ _ _ r.result r.ensures.1 c.in_err-give_pair.ensures)
 
 pub loop-i-preserved : goal.loop-i-preserved
 loop-i-preserved g c =

@@ -7,8 +7,8 @@ use Rattle.sq_oper.specs.Streams.{things, at_zero}
 use Rattle.sq_rounds.proofs.RoundLemmas.{round-near}
 use Rattle.sq_rounds.proofs.rounds.give_round.Goals as goal
 
-pub returns-clause-given : goal.returns-clause-given
-returns-clause-given g c =
+pub returns-clause-gives : goal.returns-clause-gives
+returns-clause-gives g c =
     let table = g.F.Fold.table c.args.fold.now in
     let size = c.args.size in
     let x = c.args.x in
@@ -19,6 +19,15 @@ returns-clause-given g c =
     let time = ap (λ (y : Tuple). y.time) c.in_ok-time.ensures in
     let fields = ap (λ (y : Tuple). y.fields) c.in_ok-time.ensures ∙ ap (λ (l : List Value). x.fields ++ l) answers in
     let gave = rw (c.none.ensures, c.some.ensures) at c.in_ok-give.ensures.given in
-    λ q.
-    gave q
-    ∙ (λ i. given q (g.T.Outlet.items c.args.out.now) ++ at_zero q (things (record { time = time i; fields = fields i } ∷ [])))
+    let e = c.in_ok-give.ensures in
+    record {
+      given = λ q.
+          gave q
+          ∙ (λ i. given q (g.T.Outlet.items c.args.out.now) ++ at_zero q (things (record { time = time i; fields = fields i } ∷ [])));
+      err = tt;
+      sound = e.sound;
+      extends = e.extends;
+      drops = e.drops;
+      stays_ready = e.stays_ready;
+      came = e.came;
+    }

@@ -8,7 +8,7 @@ use Rattle.sq_windrop.specs.Drops.{drop_mark, marks_for, decided, greatest_bound
 use Rattle.sq_windrop.proofs.TouchLemmas.{begun}
 use Rattle.sq_windrop.proofs.StepLemmas.{given-push, decided-push, bound-push, prefix-more, decided-more, range-push, range-more, length-newly}
 use Rattle.sq_windrop.proofs.drop.touch_each.Goals as goal
-use Rattle.sq_words.proofs.Prefixes.{prefix_along}
+use Rattle.sq_oper.proofs.GivingLemmas.{keeps-both}
 use Rattle.sq_words.proofs.Results.{OnErr_from}
 
 pub decide-requires-clause-begun : goal.decide-requires-clause-begun
@@ -92,12 +92,9 @@ loop-batch-preserved g c =
           ∙ bound-push d table c.args.batches.now.bound so_far b
           ∙ ap (λ l. max c.args.batches.now.bound (greatest_bound (marks_for d table l))) (sym (range-push from b le));
       low = omega (arith, less);
-      sound = λ h. e.sound (inv.sound h);
-      extends = prefix_along _ _ _ inv.extends e.extends;
-      keeps = prefix_along _ _ _ inv.keeps e.keeps;
+      keeps = keeps-both g.T.Outlet _ _ _ inv.keeps e.keeps;
       few = (let so = inv.few in let one = e.few in omega (arith, so, one, le));
       ready = e.stays_ready;
-      came = λ start h. e.came start (inv.came start h);
     }
 
 pub returns-clause-given : goal.returns-clause-given
@@ -159,3 +156,6 @@ returns-clause-few g c =
     let all = length-newly d next c.args.time in
     let so = c.loop-batch.invariant.few in
     omega (arith, count, all, so)
+
+pub returns-in_err-until-clause-keeps : goal.returns-in_err-until-clause-keeps
+returns-in_err-until-clause-keeps g c = keeps-both g.T.Outlet _ _ _ c.loop-batch.invariant.keeps c.in_err-until.ensures.keeps

@@ -1,14 +1,12 @@
-use Rattle.std.proofs.Common.{◌≡◌, ℕ, ◌+◌, ◌++◌, ◌∷◌, [], length, OnErr, subst, rules}
-use Rattle.sq_words.specs.Lists.{IsPrefixOf}
-use Rattle.sq_oper.specs.Outflow.{given}
+use Rattle.std.proofs.Common.{◌≡◌, ℕ, ◌+◌, ◌∷◌, [], length, subst, rules}
+use Rattle.sq_oper.specs.Giving.{GaveSome}
+use Rattle.sq_oper.specs.Streams.{at_ports_below}
 use Rattle.sq_tagged.specs.TaggedStreams.{mark_thing}
 use Rattle.sq_plain.proofs.filter.FilterBox.pass_mark.Goals as goal
-use Rattle.sq_oper.specs.Streams.{at_ports_below}
 
-pub returns-in-Some-clause-prefix : goal.returns-in-Some-clause-prefix
-returns-in-Some-clause-prefix g c =
-    let before = λ (q : ℕ). given q (g.T.Outlet.items c.args.out.now) in
-    let after = λ (q : ℕ). given q (g.T.Outlet.items c.give_to_ports.new.out) in
+pub returns-in-Some : goal.returns-in-Some
+returns-in-Some g c =
     let long : c.len.result ≡ length c.args.self.now.preds.items = search rules in
     rw c.in-Some.is
-    (subst (λ (n : ℕ). OnErr c.give_to_ports.result ((q : ℕ) → IsPrefixOf (after q) (before q ++ at_ports_below (n + 1) q (mark_thing (c.args.time, c.in-Some.mark) ∷ [])))) long c.give_to_ports.ensures.prefix)
+    (subst (λ (n : ℕ). GaveSome g.T.Outlet (λ q. at_ports_below (n + 1) q (mark_thing (c.args.time, c.in-Some.mark) ∷ [])) c.args.out.now c.give_to_ports.new.out c.give_to_ports.result) long
+    c.give_to_ports.ensures)
