@@ -9,7 +9,7 @@ use Rattle.sq_pool.specs.Pools.{Pooled, bytes_in, is_held, if_none, if_kept, Agr
 use Rattle.sq_pool.specs.Trust.{Tells}
 use Rattle.sq_pool.proofs.MapLemmas.{bytes-other, bytes-gone, bytes-last, bytes-before}
 use Rattle.sq_page.proofs.Takes.{some_is}
-use Rattle.sq_bring.specs.Bringing.{page_seen, FitsKept, IsFit, Brought, Spares, WereIn}
+use Rattle.sq_bring.specs.Bringing.{page_seen, FitsKept, IsFit, Brought, LeavesOthers, WereIn}
 use Rattle.sq_bring.specs.declared.bring.Kept.{Kept}
 
 -- a page that is in a frame after one was spilled was there before
@@ -51,7 +51,7 @@ same-by c None d (Some n) tells k t q = let no : false ≡ true = tells t in abs
 same-by c (Some t) d (Some n) tells k s q = k.pages q
 
 pub brings-spares : (c : Pooled) (told : Option Pages) (d : Pooled) (now : Option Pages) (p : ℕ) → Brings c told d now p → Keeps c told d now → (Tells now → Tells told) → Agree d now → d.frames ≡ c.frames
-    → Spares c told d now p
+    → LeavesOthers c told d now p
 brings-spares c told d now p brings k tells agree frames =
     record {
       known = λ q other b e. known-by c told d now tells k q b (brings-known c told d now p brings q other b) e;

@@ -27,7 +27,7 @@ IsFit known kept = (bytes : List ℕ) → known ≡ Some bytes → FitsKept byte
 
 -- what a call leaves of all pages but one: what is seen behind it was seen before, and where the pages are known behind it
 -- they were known before
-pub record Spares (c : Pooled) (told : Option Pages) (d : Pooled) (now : Option Pages) (page : ℕ) : Type 0 where
+pub record LeavesOthers (c : Pooled) (told : Option Pages) (d : Pooled) (now : Option Pages) (page : ℕ) : Type 0 where
   pub known : (q : ℕ) → q ≢ page → (bytes : List ℕ) → page_seen d now q ≡ Some bytes → page_seen c told q ≡ Some bytes
   pub same : Tells now → (q : ℕ) → q ≢ page → page_seen d now q ≡ page_seen c told q
   pub held : (q : ℕ) → q ≢ page → is_held d q ≡ is_held c q
@@ -42,7 +42,7 @@ pub record Brought (c : Pooled) (told : Option Pages) (d : Pooled) (now : Option
   pub fits : FitsKept bytes kept
   pub held : is_held d kept.page ≡ true
   pub same : Tells now → page_seen c told kept.page ≡ Some bytes
-  pub spares : Spares c told d now kept.page
+  pub spares : LeavesOthers c told d now kept.page
 
 -- over every disk, the bytes of a page as a call had them: they stood in its frame before, or came back in it with the digest that was kept
 abbrev pub WereIn : Pooled → DiskLog → DiskLog → ℕ → List ℕ → Type 0

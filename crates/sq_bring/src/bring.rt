@@ -11,7 +11,7 @@ use sq_page::fits;
 use sq_pool::{Digest, Pool, PoolErr};
 use std::alloc::{AllocError, Global};
 
-/// Why an item was neither pushed nor popped.
+/// Why a page wasn't brought, and so why an item was neither pushed nor popped above.
 #[derive(Drop)]
 pub enum QueueErr {
     /// The disk had a fault.
@@ -54,6 +54,7 @@ pub struct Kept {
     pub time: u64,
 }
 
+/// The error of a queue for that of its pool.
 pub fn failed(e: PoolErr) -> QueueErr
     ensures { result ≡ of_pool e }
 {

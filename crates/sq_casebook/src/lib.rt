@@ -3,8 +3,9 @@
 //! It promises nothing of its own. For each case of a text `show_cases` runs `run_words` of
 //! `sq_top` over objects in memory, and prints the number of the status, what was written and what was told. Where a run ended
 //! well, its lines are also compared with what the slow definitions of `sq_model` give for the same files: each output with
-//! its answer, each drop with its record, and where nothing may be dropped the end lines with how many tuples each box is fed and how many are late. What differs is shown, and runs that were compared are counted. Below stand the top call, the readers and
-//! the slow definitions.
+//! its answer, each drop with its record, and where nothing may be dropped the end lines with how many tuples each box is fed
+//! and how many are late. What differs is shown, and runs that were compared are counted. Below stand the top call, the readers
+//! and the slow definitions.
 //!
 //! A case begins with a line `= TITLE`. Settings follow, if any, of which each counts where it first stands; then files, each `- NAME` and
 //! its lines; then rows, each `| ROW`, and each a run with the row in place of `$`. A line that ends in `\` has no end of line, `\n` and `\r` are ends of

@@ -8,7 +8,7 @@ use Rattle.sq_link.specs.ChainLists.{Chained, StandsIn, Apart}
 use Rattle.sq_outside.specs.Disks.{Pages}
 use Rattle.sq_pool.specs.Pools.{is_held}
 use Rattle.sq_paged.specs.KeptPages.{items_kept}
-use Rattle.sq_bring.specs.Bringing.{Spares}
+use Rattle.sq_bring.specs.Bringing.{LeavesOthers}
 use Rattle.sq_paged.specs.Faces.{nodes_on, items_along, IsKeptPage, PagedTogether, kept_at, count_along, last_node}
 use Rattle.sq_paged.specs.Steps.{AppendsAt, TakesAt, StartsAt, DropsAt, AddsItem, Removes}
 use Rattle.sq_bring.specs.declared.bring.Kept.{Kept}
@@ -120,7 +120,7 @@ gone-touches q told m mid r now arc node item ys g alone inside first a d left =
     let page : (kept_at m.kept.items node).page ≡ (kept_at q.kept.items node).page = ap (λ (k : Kept). k.page) is ∙ a.page.page in
     let lists : r.chains.lists ≡ set q.chains.lists arc (drop 1 (nodes_on q arc)) = d.lists ∙ ap (λ (c : Chained). set c.lists arc (drop 1 (nth c.lists arc))) a.state in
     record {
-      spares = spares-then q.pool told m.pool mid r.pool now (kept_at q.kept.items node).page a.page.spares (subst (λ (p : ℕ). Spares m.pool mid r.pool now p) page d.spares);
+      spares = spares-then q.pool told m.pool mid r.pool now (kept_at q.kept.items node).page a.page.spares (subst (λ (p : ℕ). LeavesOthers m.pool mid r.pool now p) page d.spares);
       arcs = ap length lists ∙ length-set q.chains.lists arc (drop 1 (nodes_on q arc));
       nodes = ap (λ ks. length ks.items) d.kept ∙ ap length a.kept ∙ length-set q.kept.items node a.after ∙ g.nodes ∙ sym (ap (λ (c : Chained). c.nodes) a.state) ∙ sym d.nodes;
       lists = λ l away. ap (λ (ls : List (List ℕ)). nth ls l) lists ∙ get_or-set_other q.chains.lists arc l (drop 1 (nodes_on q arc)) [] away;

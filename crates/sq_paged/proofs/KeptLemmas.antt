@@ -9,7 +9,7 @@ use Rattle.sq_pool.specs.Pools.{Pooled, bytes_in, is_held, if_none, if_kept, Has
 use Rattle.sq_pool.specs.Trust.{Tells}
 use Rattle.sq_paged.specs.Fronts.{first_time}
 use Rattle.sq_paged.specs.KeptPages.{Appended, Taken, Started, items_kept, items_of_bytes}
-use Rattle.sq_bring.specs.Bringing.{page_seen, FitsKept, Spares}
+use Rattle.sq_bring.specs.Bringing.{page_seen, FitsKept, LeavesOthers}
 use Rattle.sq_paged.specs.Faces.{IsKeptPage}
 use Rattle.sq_bring.specs.declared.bring.Kept.{Kept}
 use Rattle.sq_paged.proofs.StoreLemmas.{items-seen, back-head}
@@ -33,10 +33,10 @@ first-time-is : (items : List Item) (first : Item) (rest : List Item) (time : �
 first-time-is items first rest time e is = ap first_time e ∙ ap (λ (n : ℕ). Some n) (sym is)
 
 -- another page than the one that changed
-pub spared-items : (c : Pooled) (told : Option Pages) (d : Pooled) (now : Option Pages) (page : ℕ) (kept : Kept) → Spares c told d now page → kept.page ≢ page → Tells now → items_kept d now kept ≡ items_kept c told kept
+pub spared-items : (c : Pooled) (told : Option Pages) (d : Pooled) (now : Option Pages) (page : ℕ) (kept : Kept) → LeavesOthers c told d now page → kept.page ≢ page → Tells now → items_kept d now kept ≡ items_kept c told kept
 spared-items c told d now page kept s other t = ap (λ (o : Option (List ℕ)). items_of_bytes o kept) (s.same t kept.page other)
 
-pub spared-kept : (c : Pooled) (told : Option Pages) (d : Pooled) (now : Option Pages) (page : ℕ) (kept : Kept) → IsKeptPage c told kept → Spares c told d now page → kept.page ≢ page → IsKeptPage d now kept
+pub spared-kept : (c : Pooled) (told : Option Pages) (d : Pooled) (now : Option Pages) (page : ℕ) (kept : Kept) → IsKeptPage c told kept → LeavesOthers c told d now page → kept.page ≢ page → IsKeptPage d now kept
 spared-kept c told d now page kept k s other =
     record {
       held = s.held kept.page other ∙ k.held;

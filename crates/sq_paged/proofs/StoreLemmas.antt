@@ -18,7 +18,7 @@ use Rattle.sq_page.proofs.PageLemmas.{many-room}
 use Rattle.sq_page.proofs.Takes.{some_is}
 use Rattle.sq_page.proofs.WholeTakes.{item_at_end, empty_page}
 use Rattle.sq_paged.specs.KeptPages.{Appended, Taken, Started, IsFirstOf, items_kept, items_of_bytes}
-use Rattle.sq_bring.specs.Bringing.{page_seen, FitsKept, Brought, Spares, WereIn}
+use Rattle.sq_bring.specs.Bringing.{page_seen, FitsKept, Brought, LeavesOthers, WereIn}
 use Rattle.sq_bring.specs.declared.bring.Kept.{Kept}
 use Rattle.sq_paged.proofs.KeptWords.{Written}
 use Rattle.sq_bring.proofs.BringLemmas.{room-known, loaded-known, in-frame}
@@ -71,7 +71,7 @@ rewritten-written c told p b w there agree =
       };
     }
 
-pub spares-then : (c : Pooled) (told : Option Pages) (d : Pooled) (now : Option Pages) (e : Pooled) (end : Option Pages) (p : ℕ) → Spares c told d now p → Spares d now e end p → Spares c told e end p
+pub spares-then : (c : Pooled) (told : Option Pages) (d : Pooled) (now : Option Pages) (e : Pooled) (end : Option Pages) (p : ℕ) → LeavesOthers c told d now p → LeavesOthers d now e end p → LeavesOthers c told e end p
 spares-then c told d now e end p a b =
     record {
       known = λ q other bytes is. a.known q other bytes (b.known q other bytes is);
@@ -262,7 +262,7 @@ made-seen : (c : Pooled) (told : Option Pages) (d : Pooled) (now : Option Pages)
 made-seen c told d None p tells m k q other b e = in-frame c told q b (made-known c told d None p m q other b e)
 made-seen c told d (Some n) p tells m k q other b e = sym (made-same c told d (Some n) p tells k refl q other) ∙ e
 
-made-spares : (c : Pooled) (told : Option Pages) (d : Pooled) (now : Option Pages) (p : ℕ) → (Tells now → Tells told) → IsMade c told d now p → Makes c told d now p → Agree d now → d.frames ≡ c.frames → Spares c told d now p
+made-spares : (c : Pooled) (told : Option Pages) (d : Pooled) (now : Option Pages) (p : ℕ) → (Tells now → Tells told) → IsMade c told d now p → Makes c told d now p → Agree d now → d.frames ≡ c.frames → LeavesOthers c told d now p
 made-spares c told d now p tells m k agree frames =
     record {
       known = made-seen c told d now p tells m k;
@@ -327,7 +327,7 @@ gone-seen c told d (Some n) p tells l k q other b e = sym (gone-same c told d (S
 pub gone-held : (c : Pooled) (told : Option Pages) (d : Pooled) (now : Option Pages) (p : ℕ) → Drops c told d now p → is_held d p ≡ false
 gone-held c told d now p k = rw (eqb_itself p) at (k.numbers p)
 
-pub gone-spares : (c : Pooled) (told : Option Pages) (d : Pooled) (now : Option Pages) (p : ℕ) → (Tells now → Tells told) → LetsGo c d p → Drops c told d now p → Agree d now → d.frames ≡ c.frames → Spares c told d now p
+pub gone-spares : (c : Pooled) (told : Option Pages) (d : Pooled) (now : Option Pages) (p : ℕ) → (Tells now → Tells told) → LetsGo c d p → Drops c told d now p → Agree d now → d.frames ≡ c.frames → LeavesOthers c told d now p
 gone-spares c told d now p tells l k agree frames =
     record {
       known = gone-seen c told d now p tells l k;

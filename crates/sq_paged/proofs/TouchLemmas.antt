@@ -11,7 +11,7 @@ use Rattle.sq_pool.specs.Pools.{is_held}
 use Rattle.sq_pool.specs.Trust.{Tells}
 use Rattle.sq_paged.specs.Fronts.{Face, IsFaceOf}
 use Rattle.sq_paged.specs.KeptPages.{items_kept}
-use Rattle.sq_bring.specs.Bringing.{Spares}
+use Rattle.sq_bring.specs.Bringing.{LeavesOthers}
 use Rattle.sq_paged.specs.Faces.{paged_face, paged_face_at, nodes_on, paged_items_on, items_along, IsKeptPage, IsPagedLane, IsOfNode, PagedTogether, kept_at}
 use Rattle.sq_paged.specs.Steps.{KeepsOthers}
 use Rattle.sq_paged.specs.declared.Lane.{Lane}
@@ -37,7 +37,7 @@ alone-by q nodes s =
 
 -- only a page, of this node of this arc, was written, made or let go
 pub record Touches (q : Queues) (told : Option Pages) (r : Queues) (now : Option Pages) (arc node page : ℕ) : Type 0 where
-  pub spares : Spares q.pool told r.pool now page
+  pub spares : LeavesOthers q.pool told r.pool now page
   pub arcs : length r.chains.lists ≡ length q.chains.lists
   pub nodes : length r.kept.items ≡ r.chains.nodes
   pub lists : (l : ℕ) → l ≢ arc → nodes_on r l ≡ nodes_on q l
@@ -187,7 +187,7 @@ together-by q told m now r arc lane g k inside lanes own faced =
 
 -- what is kept of one node of an arc changed, and its page
 pub change-touches : (q : Queues) (told : Option Pages) (r : Queues) (now : Option Pages) (arc node : ℕ) (after : Kept) → PagedTogether q told → AreAlone q → StandsIn node (nodes_on q arc) → r.chains ≡ q.chains → r.kept.items ≡ set q.kept.items node after
-    → Spares q.pool told r.pool now (kept_at q.kept.items node).page → after.page ≡ (kept_at q.kept.items node).page → IsKeptPage r.pool now after → Touches q told r now arc node (kept_at q.kept.items node).page
+    → LeavesOthers q.pool told r.pool now (kept_at q.kept.items node).page → after.page ≡ (kept_at q.kept.items node).page → IsKeptPage r.pool now after → Touches q told r now arc node (kept_at q.kept.items node).page
 change-touches q told r now arc node after g alone s state kept spares page stands =
     let is : kept_at r.kept.items node ≡ after = ap (λ (ks : List Kept). kept_at ks node) kept ∙ kept-same q.kept.items node after (alone.below arc node s) in
     record {

@@ -5,7 +5,7 @@ use Rattle.sq_outside.specs.Disks.{DiskLog, Pages}
 use Rattle.sq_page.specs.Fitting.{items_from}
 use Rattle.sq_pool.specs.Pools.{Pooled, bytes_in, is_held}
 use Rattle.sq_pool.specs.Trust.{Tells}
-use Rattle.sq_bring.specs.Bringing.{page_seen, IsFit, Spares, WereIn}
+use Rattle.sq_bring.specs.Bringing.{page_seen, IsFit, LeavesOthers, WereIn}
 use Rattle.sq_bring.specs.declared.bring.Kept.{Kept}
 
 abbrev pub items_of_bytes : Option (List ℕ) → Kept → List Item
@@ -18,7 +18,7 @@ items_kept pool told kept = items_of_bytes (page_seen pool told kept.page) kept
 -- a page has one item more behind the others
 pub record Appended (c : Pooled) (told : Option Pages) (d : Pooled) (now : Option Pages) (kept after : Kept) (item : Item) : Type 0 where
   pub page : after.page ≡ kept.page
-  pub spares : Spares c told d now kept.page
+  pub spares : LeavesOthers c told d now kept.page
   pub held : is_held d kept.page ≡ true
   pub fits : IsFit (page_seen d now after.page) after
   pub ends : after.end ≤ 8192
@@ -29,7 +29,7 @@ pub record Appended (c : Pooled) (told : Option Pages) (d : Pooled) (now : Optio
 -- a page has one item less in front
 pub record Taken (c : Pooled) (told : Option Pages) (d : Pooled) (now : Option Pages) (kept after : Kept) (item : Item) : Type 0 where
   pub page : after.page ≡ kept.page
-  pub spares : Spares c told d now kept.page
+  pub spares : LeavesOthers c told d now kept.page
   pub there : is_some (bytes_in kept.page d.resident) ≡ true
   pub held : is_held d kept.page ≡ true
   pub fits : IsFit (page_seen d now after.page) after
@@ -48,7 +48,7 @@ pub record IsFirstOf (c : Pooled) (before now : DiskLog) (kept : Kept) (item : I
 -- a new page has one item
 pub record Started (c : Pooled) (told : Option Pages) (d : Pooled) (now : Option Pages) (kept : Kept) (item : Item) : Type 0 where
   pub fresh : is_held c kept.page ≡ false
-  pub spares : Spares c told d now kept.page
+  pub spares : LeavesOthers c told d now kept.page
   pub held : is_held d kept.page ≡ true
   pub fits : IsFit (page_seen d now kept.page) kept
   pub ends : kept.end ≤ 8192

@@ -7,7 +7,7 @@ use Rattle.sq_outside.specs.Disks.{Pages}
 use Rattle.sq_pool.specs.Pools.{is_held, Agree}
 use Rattle.sq_pool.specs.Trust.{Tells}
 use Rattle.sq_paged.specs.KeptPages.{Appended, Taken, Started}
-use Rattle.sq_bring.specs.Bringing.{Spares}
+use Rattle.sq_bring.specs.Bringing.{LeavesOthers}
 use Rattle.sq_paged.specs.Faces.{nodes_on, kept_at, paged_items_on, count_along, last_node, IsPagedLane, IsKeptPage, IsOfNode}
 use Rattle.sq_bring.specs.declared.bring.Kept.{Kept}
 use Rattle.sq_paged.specs.declared.Queues.{Queues}
@@ -36,7 +36,7 @@ pub record StartsAt (q : Queues) (told : Option Pages) (r : Queues) (now : Optio
 
 -- the first page of an arc is let go
 pub record DropsAt (q : Queues) (told : Option Pages) (r : Queues) (now : Option Pages) (arc : ℕ) (node : ℕ) : Type 0 where
-  pub spares : Spares q.pool told r.pool now (kept_at q.kept.items node).page
+  pub spares : LeavesOthers q.pool told r.pool now (kept_at q.kept.items node).page
   pub gone : is_held r.pool (kept_at q.kept.items node).page ≡ false
   pub lists : r.chains.lists ≡ slice_set q.chains.lists arc (drop 1 (nth q.chains.lists arc))
   pub nodes : r.chains.nodes ≡ q.chains.nodes

@@ -8,7 +8,7 @@ ghost use Rattle.sq_page.specs.Pages.{item_bytes, IsPageOf, EndsAt, ItemBeginsAt
 ghost use Rattle.sq_pool.specs.Pools.{Agree, bytes_in, is_held, with_bytes};
 ghost use Rattle.sq_pool.specs.Trust.{IsLater, Tells, known};
 ghost use Rattle.sq_paged.specs.KeptPages.{Appended, Taken, Started, IsFirstOf};
-ghost use Rattle.sq_bring.specs.Bringing.{page_seen, IsFit, Spares, IsCause, IsTold, NoMisfit};
+ghost use Rattle.sq_bring.specs.Bringing.{page_seen, IsFit, LeavesOthers, IsCause, IsTold, NoMisfit};
 
 use sq_bring::{Kept, QueueErr, bring_page, failed};
 use sq_item::Item;
@@ -148,7 +148,7 @@ pub fn start_page<D: PageDisk>(pool: &mut Pool, disk: &mut D, item: &Item) -> Re
 pub fn let_page_go<D: PageDisk>(pool: &mut Pool, disk: &mut D, page: u64) -> Result<(), QueueErr>
     requires held { IsTrue (is_held pool.old page) }
     requires agree { Agree pool.old (known (D.log disk.old)) }
-    ensures ok { OnOk result (Spares pool.old (known (D.log disk.old)) pool.new (known (D.log disk.new)) page) }
+    ensures ok { OnOk result (LeavesOthers pool.old (known (D.log disk.old)) pool.new (known (D.log disk.new)) page) }
     ensures gone { OnOk result (is_held pool.new page ≡ false) }
     ensures log { OnOk result (is_some (bytes_in page pool.old.resident) ≡ true → D.log disk.new ≡ D.log disk.old) }
 

@@ -113,15 +113,15 @@ impl Condition {
         Condition { on, equal }
     }
 
-    /// Each two places of a pair that the predicate equates.
+    /// Pairs of places, each of which the predicate equates; it may equate more.
     pub fn equated(&self, alloc: Global) -> Result<Vec<(usize, usize)>, AllocError>
         ensures { IfOk result (λ pairs. AllByRecursion (Equates self.now.tree) pairs.items) }
     {
         equated_fields(alloc, &self.on)
     }
 
-    /// The expressions over left fields and over right ones that the predicate equates, beside bare fields. A left tuple has
-    /// as many fields as `width`.
+    /// Expressions over left fields and over right ones, beside bare fields, that the predicate equates; it may equate more. A left
+    /// tuple has as many fields as `width`.
     pub fn equal_parts(&self, alloc: Global, width: usize) -> Result<EqualParts, AllocError>
         ensures { IfOk result (λ parts. PartsAgree self.now.tree width parts.left.items parts.right.items) }
     {

@@ -1,4 +1,4 @@
-// The law of rates without a limit of tuples, as the contract of a function that does nothing.
+// That small counts are not cut off at the greatest rate, as the contract of a function that does nothing.
 ghost use Rattle.std.specs.Prelude.{◌≡◌, ℕ, ◌*◌, ◌≤◌, List, Some, slice_index};
 ghost use Rattle.sq_graph.specs.declared.Wiring.{Wiring};
 ghost use Rattle.sq_graph.specs.declared.Producer.TheVariants as producer;

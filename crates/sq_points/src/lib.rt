@@ -2,7 +2,8 @@
 //!
 //! The contracts promise exactly the drop points of the network's wiring and windows, or the first that breaks a limit,
 //! and a planner for these points with the tolls of the boxes and with the losses of the outputs below each point; and the
-//! first of these points below which an output, a box or an arc lies. Below stand the typed network of `sq_net`, the drop points of `sq_place` and the planner of `sq_plan`.
+//! first of these points below which an output, a box or an arc lies. Below stand the typed network of `sq_net`, the drop points
+//! of `sq_place` and the planner of `sq_plan`.
 #![tactic(auto)]
 
 mod above;

@@ -9,8 +9,7 @@ use std::marker::Model;
 // How many are kept at most.
 const MOST: usize = 64;
 
-/// Vectors of values that were let go, so that the next values need no memory. Which are kept is nobody's concern: contracts see
-/// the same always.
+/// Vectors of values that were let go, so that the next values may need no memory. Contracts see none of them.
 #[derive(Drop)]
 pub struct Spares {
     vectors: Vec<Vec<Value>>,

@@ -82,7 +82,7 @@ impl Stream {
         self.take_into(values)
     }
 
-    /// The same, where the values of the tuple behind it may lie in a vector that has none, so that it needs no memory.
+    /// The same; the values of the tuple that is read ahead may go into `values`, an empty vector, to save a request for memory.
     #[inline(always)]
     pub fn take_into(&mut self, values: Vec<Value>) -> Result<Option<Tuple>, AllocError>
         requires empty { values.items ≡ [] }

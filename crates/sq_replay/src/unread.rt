@@ -204,8 +204,9 @@ fn take_first(
     Ok(listed.pop_front())
 }
 
-/// Takes the next tuple, where there is one, and gets the one behind it, whose values may lie in a vector that has none. What is read in place is put in its place at once: where
-/// it met what comes by other ways it would be copied, and the copy would wait for what was just written.
+/// Takes the next tuple, where there is one, and reads the one behind it ahead; the values of that one may go into an empty vector. What is
+/// read in place is put in its place at once: where it met what comes by other ways it would be copied, and the copy would wait for what was
+/// just written.
 pub(crate) fn take_next(
     next: &mut Option<Tuple>,
     listed: &mut VecDeque<Tuple>,

@@ -11,7 +11,7 @@ total number (e ∷ es) = number e.1 + total number es
 abbrev pub AllAreMade : {K M : Type 0} → (M → Type 0) → List (K × M) → Type 0
 AllAreMade made es = AllByRecursion (λ e. made e.1) es
 
--- some states joined to one, in the order of time
+-- some states joined to one, in their order
 abbrev pub joined_onto : {M : Type 0} → (M → M → M) → M → List (ℕ × M) → M
 joined_onto join m [] = m
 joined_onto join m (e ∷ es) = joined_onto join (join m e.1) es

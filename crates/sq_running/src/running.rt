@@ -1,4 +1,4 @@
-//! Right tuples with running states.
+//! Tuples with running states.
 
 ghost use Rattle.std.specs.Prelude.{◌≡◌, ◌+◌, ◌^◌, ◌<◌, ◌++◌, ◌∷◌, [], Some, None, IfOk, IfSome, OnOk, drop, length};
 ghost use Rattle.sq_lists.specs.Sides.{left_with, recent, right_with};

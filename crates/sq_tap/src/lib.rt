@@ -4,7 +4,8 @@
 //! stands behind it in place of its source. The contracts promise that the joined network is exactly that, that it is
 //! sound and keeps the limits of drop points, that each of its outputs shows what the query alone shows over the part of
 //! the stream from the tick on, and that a refusal is that of the first broken rule, want of memory aside. Below stand what
-//! makes the joined network (`sq_joined`), the typed network of `sq_net`, its drop points and the full streams of `sq_model`. The rules are this project's own.
+//! makes the joined network (`sq_joined`), the typed network of `sq_net`, its drop points and the full streams of `sq_model`. The
+//! rules are this project's own.
 #![tactic(auto)]
 
 ghost use Rattle.std.specs.Prelude.{◌≡◌, ◌≢◌, ◌≤◌, ◌<◌, ◌^◌, ◌+◌, true, length, IfOk, IfErr, OnOk};

@@ -42,9 +42,9 @@ pub enum KeyWhy {
 /// How a call ended.
 #[derive(Drop)]
 pub enum Ending {
-    /// All outputs can be had from parts.
+    /// All that was asked for can be had.
     Ok,
-    /// An output can't.
+    /// Something can't.
     Lost,
     /// The words ask for nothing.
     Usage,

@@ -1,6 +1,7 @@
 //! Whether bytes are zeros, as behind the items of a page.
 //!
-//! The contract promises that each byte is looked at; the lemmas, that such bytes are so many zeros. It stands on nothing.
+//! The contract promises that each byte is looked at; lemmas say that such bytes are a list of zeros of that length. It stands on
+//! std alone.
 #![tactic(auto)]
 
 ghost use Rattle.std.specs.Prelude.{◌≡◌};
