@@ -4,7 +4,7 @@ use Rattle.std.specs.Prelude.{slice_index, if◌then◌else◌}
 use Rattle.sq_value.specs.declared.Tuple.{Tuple}
 use Rattle.sq_item.specs.declared.Item.{Item}
 use Rattle.sq_item.specs.Things.{Thing, spread_all}
-use Rattle.sq_outside.specs.Disks.{DiskLog, Pages}
+use Rattle.sq_outside.specs.Disks.{Pages}
 use Rattle.sq_road.specs.Levels.{LevelTable, AgreesWith}
 use Rattle.sq_words.specs.Lists.{IsPrefixOf}
 use Rattle.sq_oper.specs.declared.operator.Operator.{Ghosts}
@@ -14,7 +14,7 @@ use Rattle.sq_oper.specs.Outflow.{given, ThingsUpTo}
 use Rattle.sq_oper.specs.Streams.{things, IsSoundTuple, tuples_in}
 use Rattle.sq_left.specs.Remainder.{Holding, Facts, coming, inputs, left, still_dropped, lost_in_all, fed_in_all}
 use Rattle.sq_left.specs.Heads.{AllFine}
-use Rattle.sq_pool.specs.Trust.{IsLater, known, Tells}
+use Rattle.sq_pool.specs.Trust.{Tells}
 use Rattle.sq_queue.specs.Faces.{face, size, frames, items_on, Together}
 use Rattle.sq_replay.specs.RecordedTuples.{Recorded}
 use Rattle.sq_flow.specs.declared.seats.Seat.{Seat}
@@ -24,7 +24,6 @@ use Rattle.sq_flow.specs.declared.errors.RunErr.TheVariants.{TooMuch}
 use Rattle.sq_flow.specs.declared.flow.Did.{Did}
 use Rattle.sq_flow.specs.declared.flow.Did.TheVariants.{Waits, Fed, Finished}
 use Rattle.sq_flow.specs.Takes.{NotChanged}
-use Rattle.sq_flow.specs.Causes.{IsFeedCause}
 use Rattle.sq_flow.specs.Wiring.{net_of, from_of, arcs_read, IsOwn, IsShaped}
 use Rattle.sq_flow.specs.Seats.{rest_at, decides_at, lost_at, taken_at, fed_items_at, position_at, done_at, holds_at, IsSeat, Owns}
 use Rattle.sq_flow.specs.Events.{lines_of, drops_of, ShowsIn}
@@ -34,7 +33,12 @@ abbrev pub tuples_to_come : Option Recorded → List Tuple
 tuples_to_come None = []
 tuples_to_come (Some tuples) = tuples.items
 
--- what is still to be released of a source
+-- from which tick on more may come of a source: none where no more comes
+abbrev pub may_come : Option (Option ℕ) → Option ℕ
+may_come None = None
+may_come (Some from) = from
+
+-- what is known of a source and still to be released
 abbrev pub to_release : {O : Type 0} → Flow O → ℕ → List Tuple
 to_release flow source = tuples_to_come (slice_get flow.sources.items source)
 
@@ -61,13 +65,15 @@ RiseFrom time [] = Unit {0}
 RiseFrom time (x ∷ xs) = (time ≤ x.time) × IsSoundTuple x × RiseFrom x.time xs
 
 -- what a replay has still to release: few sources, the tuples of each from the clock on in the order of times, no more of each than a million with
--- those that were counted, and nothing where it is over
-pub record IsReplaying (sources : List Recorded) (clock : ℕ) (counts : List ℕ) (over : Bool) : Type 0 where
+-- those that were counted, and nothing where it is over. Of each source it is told from which tick on more may come
+pub record IsReplaying (sources : List Recorded) (ahead : List (Option ℕ)) (clock : ℕ) (counts : List ℕ) (over : Bool) : Type 0 where
   pub few_sources : length sources < 2 ^ 32
   pub coming : (source : ℕ) → RiseFrom clock (tuples_to_come (slice_get sources source))
+  pub told : length ahead ≡ length sources
   pub counted : length counts ≡ length sources
   pub few_tuples : (source : ℕ) → slice_index counts source + length (tuples_to_come (slice_get sources source)) ≤ 1000000
   pub ends : over ≡ true → (source : ℕ) → tuples_to_come (slice_get sources source) ≡ []
+  pub closed : over ≡ true → (source : ℕ) → may_come (slice_get ahead source) ≡ None
 
 -- what each step keeps, over every disk
 pub record IsFlow {O : Type 0} (m : Ghosts O) (flow : Flow O) : Type 0 where
@@ -80,7 +86,7 @@ pub record IsFlow {O : Type 0} (m : Ghosts O) (flow : Flow O) : Type 0 where
   pub few : flow.taken < 2 ^ 62
   pub held : (table : ℕ → ℕ → ℕ) → AgreesWith flow.levels table
       → (seat port : ℕ) → ThingsUpTo flow.clock (rest_at m table (slice_get flow.seats.items seat) [] port)
-  pub replay : IsReplaying flow.sources.items flow.clock flow.counts.items flow.over
+  pub replay : IsReplaying flow.sources.items flow.ahead.items flow.clock flow.counts.items flow.over
   pub levels : (flow.levels.closed ≡ flow.clock / flow.levels.epoch + 1) × (flow.clock < 2 ^ 40)
   pub owned : (seat : ℕ) → holds_at (Owns m (IsOwn flow.wires seat) flow.levels) (slice_get flow.seats.items seat)
 
@@ -160,12 +166,13 @@ count_all (tuples ∷ sources) = length tuples.items + count_all sources
 abbrev pub measure_of : {O : Type 0} → Flow O → ℕ
 measure_of flow = count_all flow.sources.items + (2 ^ 62 - 1 - flow.taken) + (open_seats flow.seats.items + (if flow.over then 0 else 1))
 
--- what a call that ended Ok did
+-- what a call that ended Ok did, where no more comes of any source than is known
 pub record Stepped {O : Type 0} (m : Ghosts O) (was is : Option Pages) (flow flow' : Flow O) (events events' : List Event) : Type 0 where
   pub flow_after : IsFlow m flow'
   pub together : Together flow'.queues is
   pub tells : Tells is → Tells was
   pub wires : flow'.wires ≡ flow.wires
+  pub ahead : flow'.ahead ≡ flow.ahead
   pub framed : frames flow'.queues ≡ frames flow.queues
   pub seats : length flow'.seats.items ≡ length flow.seats.items
   pub closes : (table : ℕ → ℕ → ℕ) → AgreesWith flow'.levels table → AgreesWith flow.levels table
@@ -210,13 +217,3 @@ StepCosts m was is flow levels before after =
 pub record TooMuchOnly {O : Type 0} (m : Ghosts O) (was is : Option Pages) (flow flow' : Flow O) (e : RunErr) : Type 0 where
   pub counted : e ≡ TooMuch → 2 ^ 62 ≤ flow'.taken + 2
   pub turns : e ≡ TooMuch → WhereKnown m was is flow flow'.levels (λ table. 2 ^ 62 ≤ turns_at_last m table (items_in flow was) flow)
-
--- the feed at which a run of steps failed, where one did: the flow right before it came of the first by steps
-pub record FailsAt {O : Type 0} (m : Ghosts O) (log now : DiskLog) (flow flow' : Flow O) (events : List Event) (e : RunErr) : Type 0 where
-  pub before : Flow O
-  pub mid : DiskLog
-  pub shown : List Event
-  pub stepped : Stepped m (known log) (known mid) flow before events shown
-  pub later : IsLater log mid
-  pub last : IsLater mid now
-  pub feed : IsFeedCause before flow' mid now e

@@ -10,6 +10,7 @@ use Rattle.sq_flow.specs.declared.flow.Did.TheVariants.{Waits, Fed, Finished}
 use Rattle.sq_flow.specs.Wiring.{arcs_read, from_of, to_of}
 use Rattle.sq_flow.specs.Seats.{done_at}
 use Rattle.sq_flow.specs.Flows.{IsFlow, count_all}
+use Rattle.sq_flow.specs.Sources.{is_clear}
 use Rattle.sq_oper.specs.declared.operator.Operator.{Ghosts}
 
 -- an item stands first on the arc, or the arc has ended
@@ -21,17 +22,23 @@ pub record HasActor {O : Type 0} (m : Ghosts O) (e : Flow O) (seat : ℕ) : Type
   pub flow : IsFlow m e
   pub actor_in : seat ≤ length e.seats.items
 
--- the actor at a seat isn't finished and waits for no arc
+-- the replay waits for no source
+abbrev pub replay_goes : {O : Type 0} → Flow O → ℕ → Bool
+replay_goes flow seat = if seat == length flow.seats.items then is_clear flow.sources.items flow.ahead.items else true
+
+-- the actor at a seat isn't finished and waits for no arc, and the replay for no source
 pub record IsReady {O : Type 0} (flow : Flow O) (seat : ℕ) : Type 0 where
   pub running : done_at flow.over (slice_get flow.seats.items seat) ≡ false
   pub standing : (port arc : ℕ) → slice_get (arcs_read flow.wires seat) port ≡ Some arc → stands (face flow.queues arc) ≡ true
+  pub going : replay_goes flow seat ≡ true
 
 -- the same as a test
 abbrev pub is_ready : {O : Type 0} → Flow O → ℕ → Bool
-is_ready flow seat = not (done_at flow.over (slice_get flow.seats.items seat)) && list_all (λ arc. stands (face flow.queues arc)) (arcs_read flow.wires seat)
+is_ready flow seat =
+    not (done_at flow.over (slice_get flow.seats.items seat)) && (list_all (λ arc. stands (face flow.queues arc)) (arcs_read flow.wires seat) && replay_goes flow seat)
 
 -- what a call of one actor leaves alone: arcs that it neither reads nor writes keep their faces, those that it doesn't read only
--- grow, and no other actor begins or ends
+-- grow, no other actor begins or ends, and none but the replay takes from the sources
 pub record TouchesOnly {O : Type 0} (seat : ℕ) (flow flow' : Flow O) : Type 0 where
   pub apart : (arc : ℕ) → arc < length flow.wires.arcs.items → to_of (slice_get flow.wires.arcs.items arc) ≢ seat
       → from_of (slice_get flow.wires.arcs.items arc) ≢ seat → face flow'.queues arc ≡ face flow.queues arc
@@ -39,6 +46,8 @@ pub record TouchesOnly {O : Type 0} (seat : ℕ) (flow flow' : Flow O) : Type 0 
       → stands (face flow.queues arc) ≡ true → stands (face flow'.queues arc) ≡ true
   pub others : (other : ℕ) → other ≤ length flow.seats.items → other ≢ seat
       → done_at flow'.over (slice_get flow'.seats.items other) ≡ done_at flow.over (slice_get flow.seats.items other)
+  pub sources : seat ≢ length flow.seats.items → flow'.sources ≡ flow.sources
+  pub ahead : flow'.ahead ≡ flow.ahead
 
 -- how many items wait for an actor, as far as a u64 counts
 abbrev pub waiting : {O : Type 0} → Flow O → ℕ → ℕ

@@ -1,8 +1,9 @@
 -- Which source releases next.
-use Rattle.std.specs.Prelude.{ℕ, ◌≤◌, ◌<◌, List, [], ◌∷◌, length, slice_get}
+use Rattle.std.specs.Prelude.{◌≡◌, is_some, ℕ, zero, suc, ◌≤◌, ◌<◌, ◌&&◌, ◌||◌, Bool, true, false, List, [], ◌∷◌, length, Option, Some, None, slice_get}
+use Rattle.sq_left.specs.Heads.{key_before}
 use Rattle.sq_value.specs.declared.Tuple.{Tuple}
-use Rattle.sq_replay.specs.RecordedTuples.{Recorded}
-use Rattle.sq_flow.specs.Flows.{tuples_to_come}
+use Rattle.sq_replay.specs.RecordedTuples.{Recorded, first_recorded}
+use Rattle.sq_flow.specs.Flows.{tuples_to_come, may_come}
 
 -- the list begins at this time or later, if it begins
 abbrev pub BeginsNotBefore : ℕ → List Tuple → Type 0
@@ -24,3 +25,41 @@ BeginsLeast sources source (x ∷ xs) =
 pub record IsNextSource (sources : List Recorded) (source : ℕ) : Type 0 where
   pub there : source < length sources
   pub least : BeginsLeast sources source (tuples_to_come (slice_get sources source))
+
+-- of all numbers below one, and of some
+abbrev pub all_below : (ℕ → Bool) → ℕ → Bool
+all_below p zero = true
+all_below p (suc n) = all_below p n && p n
+
+abbrev pub some_below : (ℕ → Bool) → ℕ → Bool
+some_below p zero = false
+some_below p (suc n) = some_below p n || p n
+
+-- a source that begins at this time, if it begins, comes before what may come of another from a tick on
+abbrev pub begins_before : Option ℕ → ℕ → ℕ → ℕ → Bool
+begins_before None source from other = false
+begins_before (Some time) source from other = key_before time source from other
+
+-- what is known of some source comes before all that may come of this one from a tick on
+abbrev pub is_preceded : List Recorded → ℕ → ℕ → Bool
+is_preceded sources source from =
+    some_below (λ other. begins_before (first_recorded (tuples_to_come (slice_get sources other))) other from source) (length sources)
+
+-- a source holds back no other: it begins, no more comes of it, or what may come is preceded
+abbrev pub holds_none : List Recorded → ℕ → Option ℕ → Option ℕ → Bool
+holds_none sources source (Some time) from = true
+holds_none sources source None None = true
+holds_none sources source None (Some from) = is_preceded sources source from
+
+abbrev pub is_clear_of : List Recorded → List (Option ℕ) → ℕ → Bool
+is_clear_of sources ahead source = holds_none sources source (first_recorded (tuples_to_come (slice_get sources source))) (may_come (slice_get ahead source))
+
+-- the replay may go on, by what is known
+abbrev pub is_clear : List Recorded → List (Option ℕ) → Bool
+is_clear sources ahead = all_below (is_clear_of sources ahead) (length sources)
+
+-- nothing is known of a source, and more may come of it
+pub record IsWanted (sources : List Recorded) (ahead : List (Option ℕ)) (source : ℕ) : Type 0 where
+  pub there : source < length sources
+  pub bare : tuples_to_come (slice_get sources source) ≡ []
+  pub more : is_some (may_come (slice_get ahead source)) ≡ true

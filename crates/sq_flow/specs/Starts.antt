@@ -22,6 +22,7 @@ use Rattle.sq_flow.specs.Flows.{tuples_to_come, RiseFrom, IsFlow}
 use Rattle.sq_plan.specs.Arrivals.{arrivals}
 use Rattle.sq_flow.specs.Plans.{IsPlanned, last_arrival, plans_left}
 use Rattle.sq_flow.specs.Seats.{FitsArcs, holds_at}
+use Rattle.sq_flow.specs.Tails.{Tails, joined, with_tails, MayFit}
 use Rattle.sq_flow.specs.Wiring.{net_of, IsOwn, IsShaped}
 
 -- the operator is new and fits its arcs, all that it may decide is its own, and levels of epochs of so many ticks may be read
@@ -39,27 +40,29 @@ pub record IsNewSeat {O : Type 0} (m : Ghosts O) (takes : ℕ → Bool) (fits : 
   pub owns : (table : ℕ → ℕ → ℕ) (future : List Entry) → IsFuture (m.takes_marks seat.op) (m.fits seat.op) Start future
       → AllByRecursion own (m.decides seat.op table future)
 
--- few sources, of each no more than a million tuples, in the order of times
-pub record AreNewSources (sources : List Recorded) : Type 0 where
+-- few sources, of each no more than a million known tuples, in the order of times, and from which tick on more may come
+pub record AreNewSources (sources : List Recorded) (ahead : List (Option ℕ)) : Type 0 where
   pub coming : (source : ℕ) → RiseFrom 0 (tuples_to_come (slice_get sources source))
+  pub told : length ahead ≡ length sources
   pub few : length sources < 2 ^ 32
   pub few_tuples : (source : ℕ) → length (tuples_to_come (slice_get sources source)) ≤ 1000000
 
 -- the parts of a new flow: the operators are joined by these wires, nothing was fed to them, the sources are few and in the order of times, no
 -- level is known, and there are two frames at least
-pub record AreNewParts {O : Type 0} (m : Ghosts O) (wires : Wires) (ops : List (Seat O)) (streams : List Recorded) (table : LevelTable) (most : ℕ) : Type 0 where
+pub record AreNewParts {O : Type 0} (m : Ghosts O) (wires : Wires) (ops : List (Seat O)) (streams : List Recorded) (ahead : List (Option ℕ)) (table : LevelTable) (most : ℕ) : Type 0 where
   pub shaped : IsShaped wires (length ops)
   pub seats : (seat : ℕ) → holds_at (IsNewSeat m ((net_of wires).takes seat) ((net_of wires).fits seat) (IsOwn wires seat) table.epoch) (slice_get ops seat)
-  pub sources : AreNewSources streams
+  pub sources : AreNewSources streams ahead
   pub levels : (table.closed ≡ 1) × (table.rows ≡ [])
   pub frames : 2 ≤ most
 
 -- a flow of these parts that has released nothing, whose queues are empty and have so many frames
 pub record IsNewFlow {O : Type 0} (wires : Wires) (seats : Vec (Seat O) Global) (sources : Vec Recorded Global)
-    (planner : Setting) (levels : LevelTable) (most : ℕ) (flow : Flow O) : Type 0 where
+    (ahead : List (Option ℕ)) (planner : Setting) (levels : LevelTable) (most : ℕ) (flow : Flow O) : Type 0 where
   pub wires_are : flow.wires ≡ wires
   pub seats_are : flow.seats ≡ seats
   pub sources_are : flow.sources ≡ sources
+  pub ahead_are : flow.ahead.items ≡ ahead
   pub planner_is : flow.planner ≡ planner
   pub levels_are : flow.levels ≡ levels
   pub runs : flow.over ≡ false
@@ -69,11 +72,16 @@ pub record IsNewFlow {O : Type 0} (wires : Wires) (seats : Vec (Seat O) Global) 
   pub empty : (pages : Option Pages) (arc : ℕ) → items_on flow.queues pages arc ≡ []
   pub together : (pages : Option Pages) → Together flow.queues pages
 
--- a flow of these parts that is sound; its levels are planned for what arrives, and all its plans are still to be shown
+-- the levels of a flow are planned for what arrives of these sources, and all its plans are still to be shown
+pub record PlansAll {O : Type 0} (sources : List Recorded) (planner : Setting) (epoch : ℕ) (e : Flow O) : Type 0 where
+  pub planned : IsPlanned (arrivals epoch (map (λ s. s.items) sources)) e
+  pub plans : plans_left e ≡ flat_map (shown_after planner (arrivals epoch (map (λ s. s.items) sources))) (numbers_to (last_arrival epoch (map (λ s. s.items) sources)))
+
+-- a flow of these parts that is sound, and so it is with whatever may come; its plans are those of what is known, and with what may come
 pub record BeginsFlow {O : Type 0} (m : Ghosts O) (wires : Wires) (seats : Vec (Seat O) Global) (sources : Vec Recorded Global)
-    (planner : Setting) (levels : LevelTable) (most : ℕ) (e : Flow O) : Type 0 where
+    (ahead : List (Option ℕ)) (planner : Setting) (levels : LevelTable) (most : ℕ) (e : Flow O) : Type 0 where
   pub flow : IsFlow m e
-  pub parts : IsNewFlow wires seats sources planner levels most e
-  pub planned : IsPlanned (arrivals levels.epoch (map (λ s. s.items) sources.items)) e
-  pub plans : plans_left e ≡ flat_map (shown_after planner (arrivals levels.epoch (map (λ s. s.items) sources.items)))
-      (numbers_to (last_arrival levels.epoch (map (λ s. s.items) sources.items)))
+  pub parts : IsNewFlow wires seats sources ahead planner levels most e
+  pub plans : PlansAll sources.items planner levels.epoch e
+  pub fits : MayFit m sources.items ahead e
+  pub plans_on : (tails : Tails) → PlansAll (joined tails sources.items) planner levels.epoch (with_tails tails e)

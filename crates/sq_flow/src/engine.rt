@@ -9,6 +9,7 @@ ghost use Rattle.sq_words.specs.Lists.{numbers_to, contains_number};
 ghost use Rattle.sq_plan.specs.PlanRows.{shown_after};
 ghost use Rattle.sq_flow.specs.Engines.{seat_number};
 
+use crate::clearing::first_held;
 use crate::errors::RunErr;
 use crate::flow::Flow;
 use crate::seats::Seat;
@@ -48,6 +49,8 @@ impl<O: Drop> Drop for Engine<O> {
 #[derive(Clone, Copy, PartialEq, Eq, Drop)]
 pub enum State {
     Running,
+    /// No actor is ready until more of a source is known.
+    Waiting,
     Done,
     Failed,
 }
@@ -62,42 +65,35 @@ fn seat_number(ops: u32, actor: u32) -> u32
 }
 
 impl<O: Operator + Drop> Engine<O> {
-    ghost use Rattle.sq_flow.specs.Flows.{IsFlow, HoldsItems, items_in, lines_left, decisions_left, fed_at_last, lost_at_last, work_at_last, taken_in_all, left_on};
-    ghost use Rattle.sq_plan.specs.Arrivals.{arrivals};
-    ghost use Rattle.sq_flow.specs.Plans.{IsPlanned, last_arrival, plans_left};
+    ghost use Rattle.sq_flow.specs.Flows.{IsFlow};
+    ghost use Rattle.sq_flow.specs.Sources.{is_clear, IsWanted};
+    ghost use Rattle.sq_flow.specs.Tails.{Whatever, with_tails};
     ghost use Rattle.sq_flow.specs.Stepping.{stage, StepErr};
     ghost use Rattle.sq_flow.specs.EngineSteps.{EngineOk};
-    ghost use Rattle.sq_flow.specs.Engines.{IsEngine, MayLook, Looked, AllDone, newly_ready, readers_of};
-    ghost use Rattle.sq_flow.specs.Seats.{taken_at, lost_at, holds_at};
-    ghost use Rattle.sq_flow.specs.Starts.{IsNewSeat, AreNewSources, IsNewFlow};
-    ghost use Rattle.sq_flow.specs.Wiring.{net_of, arcs_read, IsOwn, IsShaped};
+    ghost use Rattle.sq_flow.specs.Engines.{IsEngine, MayLook, Looked, AllDone, readers_of};
+    ghost use Rattle.sq_flow.specs.Knowing.{IsHeld, MayKnow, Knows};
+    ghost use Rattle.sq_flow.specs.Endings.{NothingComes};
+    ghost use Rattle.sq_flow.specs.Seats.{taken_at};
+    ghost use Rattle.sq_flow.specs.Starts.{AreNewParts};
+    ghost use Rattle.sq_flow.specs.EngineStarts.{BeginsEngine};
 
-    /// An engine over operators that nothing was fed to, with what each source is to release, in the order of times. It has
-    /// released nothing yet; the ready actors are listed in ascending number. An error says that memory ran out.
+    /// An engine over operators that nothing was fed to, with what is known of each source, in the order of times, and from which tick
+    /// on more may come of it. It has released nothing yet; the ready actors are listed in ascending number. An error says that memory
+    /// ran out.
     pub fn new(
         alloc: Global,
         wires: Wires,
         seats: Vec<Seat<O>>,
         sources: Vec<Stream>,
+        ahead: Vec<Option<u64>>,
         planner: Planner,
         levels: Levels,
         frames: u32,
     ) -> Result<Engine<O>, AllocError>
-        requires shaped { IsShaped wires (length seats.items) }
-        requires seats { (seat : ℕ) → holds_at (IsNewSeat O.Operator ((net_of wires).takes seat) ((net_of wires).fits seat) (IsOwn wires seat) levels.epoch)
-            (slice_get seats.items seat) }
-        requires sources { AreNewSources sources.items }
-        requires levels { (levels.closed ≡ 1) × (levels.rows ≡ []) }
-        requires frames { 2 ≤ frames }
-        ensures engine { IfOk result (λ e. IsEngine O.Operator e) }
-        ensures flow { IfOk result (λ e. IsNewFlow wires seats sources planner levels frames e.flow) }
-        ensures planned { IfOk result (λ e. IsPlanned (arrivals levels.epoch (map (λ s. s.items) sources.items)) e.flow) }
-        ensures plans { IfOk result (λ e. plans_left e.flow
-            ≡ flat_map (shown_after planner (arrivals levels.epoch (map (λ s. s.items) sources.items)))
-            (numbers_to (last_arrival levels.epoch (map (λ s. s.items) sources.items)))) }
-        ensures order { IfOk result (λ e. e.ready.list ≡ newly_ready e.flow []) }
+        requires { AreNewParts O.Operator wires seats.items sources.items ahead.items levels frames }
+        ensures { IfOk result (BeginsEngine O.Operator wires seats sources ahead.items planner levels frames) }
     {
-        let flow = Flow::new(alloc, wires, seats, sources, planner, levels, frames)?;
+        let flow = Flow::new(alloc, wires, seats, sources, ahead, planner, levels, frames)?;
         let ready = Ready::new(alloc, flow.wires.replay + 1)?;
         let waits = vec![in alloc; 0; flow.wires.replay as usize + 1]?;
         let mut engine = Engine {
@@ -108,6 +104,26 @@ impl<O: Operator + Drop> Engine<O> {
         };
         engine.look_at_all();
         Ok(engine)
+    }
+
+    /// The first source that holds back another: more of it must be known before the replay goes on.
+    pub fn wanted(&self) -> Option<u32>
+        requires { IsFlow O.Operator self.now.flow }
+        ensures none { result ≡ None → is_clear self.now.flow.sources.items self.now.flow.ahead.items ≡ true }
+        ensures some { IfSome result (IsWanted self.now.flow.sources.items self.now.flow.ahead.items) }
+    {
+        first_held(&self.flow.sources, &self.flow.ahead)
+    }
+
+    /// More is known of a source of which nothing was: these tuples, behind which others may come from a tick on, or none. It is told
+    /// where no actor is ready; then the replay may be.
+    pub fn feed(&mut self, source: u32, stream: Stream, ahead: Option<u64>)
+        requires { MayKnow O.Operator self.old source stream.items }
+        ensures { Knows O.Operator source stream.items ahead self.old self.new }
+    {
+        self.flow.sources[source as usize] = stream;
+        self.flow.ahead[source as usize] = ahead;
+        self.look_at(0);
     }
 
     /// Looks at an actor: counts what waits for it, and lists it last where it is ready and isn't listed.
@@ -204,22 +220,25 @@ impl<O: Operator + Drop> Engine<O> {
         self.flow.seats[seat as usize].tally.taken
     }
 
-    /// The engine runs as long as an actor isn't finished, and then the ready list isn't empty; it is done where all are. It has
-    /// failed where a step failed.
+    /// The engine runs as long as the ready list isn't empty. Else it is done where all actors are finished, and where one isn't the
+    /// replay waits for a source. It has failed where a step failed.
     pub fn state(&self) -> State
         requires engine { self.now.failed ≡ false → IsEngine O.Operator self.now }
         ensures done { result ≡ State.Done → AllDone self.now.flow × (self.now.failed ≡ false) }
         ensures when_done { self.now.failed ≡ false → AllDone self.now.flow → result ≡ State.Done }
         ensures runs { result ≡ State.Running → (0 < length self.now.ready.list) × (self.now.failed ≡ false) }
+        ensures waits { result ≡ State.Waiting → IsHeld self.now }
         ensures failed { result ≡ State.Failed → self.now.failed ≡ true }
         ensures when_failed { self.now.failed ≡ true → result ≡ State.Failed }
     {
         if self.failed {
             State::Failed
-        } else if self.ready.is_empty() {
+        } else if !self.ready.is_empty() {
+            State::Running
+        } else if self.flow.over {
             State::Done
         } else {
-            State::Running
+            State::Waiting
         }
     }
 
@@ -227,24 +246,8 @@ impl<O: Operator + Drop> Engine<O> {
     pub fn nothing_left(&self)
         requires engine { IsFlow O.Operator self.now.flow }
         requires done { AllDone self.now.flow }
-        ensures lines { (pages : Option Pages) (table : ℕ → ℕ → ℕ) → HoldsItems O.Operator table (items_in self.now.flow pages) self.now.flow
-            → (output : ℕ) → self.now.flow.wires.shown + output < length self.now.flow.seats.items
-            → lines_left O.Operator table (items_in self.now.flow pages) self.now.flow output ≡ [] }
-        ensures drops { (pages : Option Pages) (table : ℕ → ℕ → ℕ) → HoldsItems O.Operator table (items_in self.now.flow pages) self.now.flow
-            → (seat : ℕ) → seat < length self.now.flow.seats.items → decisions_left O.Operator table (items_in self.now.flow pages) self.now.flow seat ≡ [] }
-        ensures fed { (pages : Option Pages) (table : ℕ → ℕ → ℕ) → HoldsItems O.Operator table (items_in self.now.flow pages) self.now.flow
-            → (seat : ℕ) → seat < length self.now.flow.seats.items
-            → fed_at_last O.Operator table (items_in self.now.flow pages) self.now.flow seat
-            ≡ taken_at O.Operator (slice_get self.now.flow.seats.items seat) }
-        ensures lost { (pages : Option Pages) (table : ℕ → ℕ → ℕ) → HoldsItems O.Operator table (items_in self.now.flow pages) self.now.flow
-            → (seat : ℕ) → seat < length self.now.flow.seats.items
-            → lost_at_last O.Operator table (items_in self.now.flow pages) self.now.flow seat
-            ≡ lost_at O.Operator (slice_get self.now.flow.seats.items seat) [] }
-        ensures work { (pages : Option Pages) (table : ℕ → ℕ → ℕ) → HoldsItems O.Operator table (items_in self.now.flow pages) self.now.flow
-            → work_at_last O.Operator table (items_in self.now.flow pages) self.now.flow ≡ taken_in_all O.Operator self.now.flow }
-        ensures arcs { (pages : Option Pages) (table : ℕ → ℕ → ℕ) → HoldsItems O.Operator table (items_in self.now.flow pages) self.now.flow
-            → (seat port arc : ℕ) → seat < length self.now.flow.seats.items → slice_get (arcs_read self.now.flow.wires seat) port ≡ Some arc
-            → left_on O.Operator table (items_in self.now.flow pages) self.now.flow arc ≡ [] }
+        ensures known { NothingComes O.Operator self.now.flow }
+        ensures on { Whatever O.Operator self.now.flow (λ tails. NothingComes O.Operator (with_tails tails self.now.flow)) }
     {
         let _engine = self;
     }

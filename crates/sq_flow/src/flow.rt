@@ -26,7 +26,7 @@ use sq_value::{Tuple, Value};
 use std::alloc::AllocError;
 use std::sync::ledger::Ledger;
 
-/// Operators joined by queues, and a replay of what each source has still to release. The levels of the closed epochs are known;
+/// Operators joined by queues, and a replay of what is known of each source and still to be released. The levels of the closed epochs are known;
 /// of the epoch that is open, the last before `levels.closed`, it is counted how many tuples each source released.
 pub struct Flow<O> {
     pub wires: Wires,
@@ -34,6 +34,8 @@ pub struct Flow<O> {
     pub over: bool,
     pub queues: Queues,
     pub sources: Vec<Stream>,
+    /// From which tick on more may come of each source behind what is known of it; none where no more comes.
+    pub ahead: Vec<Option<u64>>,
     pub clock: u64,
     pub planner: Planner,
     pub levels: Levels,
@@ -50,6 +52,7 @@ impl<O: Drop> Drop for Flow<O> {
             over: _over,
             queues: _queues,
             sources: _sources,
+            ahead: _ahead,
             clock: _clock,
             planner: _planner,
             levels: _levels,
@@ -124,7 +127,8 @@ fn end_arcs(wires: &Wires, queues: &mut Queues, seat: u32)
 }
 
 impl<O: Operator + Drop> Flow<O> {
-    ghost use Rattle.sq_flow.specs.Flows.{IsFlow, to_release};
+    ghost use Rattle.sq_flow.specs.Flows.{IsFlow, may_come, to_release};
+    ghost use Rattle.sq_flow.specs.Sources.{is_clear};
     ghost use Rattle.sq_flow.specs.Stepping.{MayStep, HasNext, HasFeed, stage, StepWhole, StepErr, StepsAlone};
 
     /// Feeds an operator the first item of an arc.
@@ -201,7 +205,7 @@ impl<O: Operator + Drop> Flow<O> {
         Ok(())
     }
 
-    /// Releases the next tuple of a source, the one of the least time. Where it is of a later epoch those before it are closed.
+    /// Releases the next tuple of a source, the one of the least time, before which none may still come. Where it is of a later epoch those before it are closed.
     pub(crate) fn release_step<D: PageDisk>(
         &mut self,
         disk: &mut D,
@@ -211,6 +215,7 @@ impl<O: Operator + Drop> Flow<O> {
     ) -> Result<(), RunErr>
         requires may { MayStep O.Operator self.old (known (D.log disk.old)) failed.old }
         requires next { IsNextSource self.old.sources.items source }
+        requires clear { is_clear self.old.sources.items self.old.ahead.items ≡ true }
         ensures ok { OnOk result ((n : ℕ) → StepWhole O.Operator (length self.old.seats.items) Did.Fed (stage D.PageDisk self.old disk.old events.old.items n)
             (stage D.PageDisk self.new disk.new events.new.items n) failed.new) }
         ensures err { IfErr result (λ e. (n : ℕ) → StepErr O.Operator (stage D.PageDisk self.old disk.old events.old.items n)
@@ -252,6 +257,7 @@ impl<O: Operator + Drop> Flow<O> {
     pub(crate) fn end_step(&mut self)
         requires flow { IsFlow O.Operator self.old }
         requires none { (source : ℕ) → to_release self.old source ≡ [] }
+        requires closed { (source : ℕ) → may_come (slice_get self.old.ahead.items source) ≡ None }
         requires running { self.old.over ≡ false }
         ensures { StepsAlone O.Operator (length self.old.seats.items) Did.Finished self.old self.new }
     {

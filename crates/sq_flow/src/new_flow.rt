@@ -22,12 +22,13 @@ impl<O: Operator + Drop> Flow<O> {
         wires: Wires,
         seats: Vec<Seat<O>>,
         sources: Vec<Stream>,
+        ahead: Vec<Option<u64>>,
         planner: Planner,
         levels: Levels,
         frames: u32,
     ) -> Result<Flow<O>, AllocError>
-        requires parts { AreNewParts O.Operator wires seats.items sources.items levels frames }
-        ensures { IfOk result (BeginsFlow O.Operator wires seats sources planner levels frames) }
+        requires parts { AreNewParts O.Operator wires seats.items sources.items ahead.items levels frames }
+        ensures { IfOk result (BeginsFlow O.Operator wires seats sources ahead.items planner levels frames) }
     {
         let arcs = wires.arcs.len() as u32;
         let queues = Queues::new(alloc, arcs, frames)?;
@@ -38,6 +39,7 @@ impl<O: Operator + Drop> Flow<O> {
             over: false,
             queues,
             sources,
+            ahead,
             clock: 0,
             planner,
             levels,

@@ -5,6 +5,7 @@ ghost use Rattle.std.specs.List.{list_all};
 ghost use Rattle.sq_queue.specs.Faces.{face, size};
 ghost use Rattle.sq_flow.specs.Readiness.{stands};
 
+use crate::clearing::is_clear;
 use crate::flow::Flow;
 use sq_oper::Operator;
 use sq_queue::{ArcQueues, Head, Queues};
@@ -57,7 +58,7 @@ impl<O: Operator + Drop> Flow<O> {
             return false;
         }
         if seat == self.wires.replay {
-            return true;
+            return is_clear(&self.sources, &self.ahead);
         }
         all_stand(self.wires.arcs_of(seat), &self.queues)
     }

@@ -3,6 +3,7 @@
 ghost use Rattle.std.specs.Prelude.{◌≡◌, ℕ, ◌≤◌, ◌<◌, false, IfOk, IfErr, length, slice_get};
 ghost use Rattle.sq_pool.specs.Trust.{known};
 
+use crate::clearing::is_clear;
 use crate::errors::RunErr;
 use crate::flow::{Did, Flow, next_source};
 use sq_heads::{Next, next_of};
@@ -33,7 +34,7 @@ impl<O: Operator + Drop> Flow<O> {
         }
     }
 
-    /// One step of the replay.
+    /// One step of the replay; none where a tuple that isn't known yet may precede those that are.
     fn replay_step<D: PageDisk>(
         &mut self,
         disk: &mut D,
@@ -47,6 +48,9 @@ impl<O: Operator + Drop> Flow<O> {
         ensures err { IfErr result (λ e. (n : ℕ) → StepErr O.Operator (stage D.PageDisk self.old disk.old events.old.items n)
             (stage D.PageDisk self.new disk.new events.new.items n) e) }
     {
+        if !is_clear(&self.sources, &self.ahead) {
+            return Ok(Did::Waits);
+        }
         match next_source(&self.sources) {
             None => {
                 self.end_step();
