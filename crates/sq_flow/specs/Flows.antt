@@ -64,14 +64,14 @@ abbrev pub RiseFrom : ℕ → List Tuple → Type 0
 RiseFrom time [] = Unit {0}
 RiseFrom time (x ∷ xs) = (time ≤ x.time) × IsSoundTuple x × RiseFrom x.time xs
 
--- what a replay has still to release: few sources, the tuples of each from the clock on in the order of times, no more of each than a million with
--- those that were counted, and nothing where it is over. Of each source it is told from which tick on more may come
+-- what a replay has still to release: few sources, the tuples of each from the clock on in the order of times, no more of each than can be
+-- counted, with those that were, and nothing where it is over. Of each source it is told from which tick on more may come
 pub record IsReplaying (sources : List Recorded) (ahead : List (Option ℕ)) (clock : ℕ) (counts : List ℕ) (over : Bool) : Type 0 where
   pub few_sources : length sources < 2 ^ 32
   pub coming : (source : ℕ) → RiseFrom clock (tuples_to_come (slice_get sources source))
   pub told : length ahead ≡ length sources
   pub counted : length counts ≡ length sources
-  pub few_tuples : (source : ℕ) → slice_index counts source + length (tuples_to_come (slice_get sources source)) ≤ 1000000
+  pub few_tuples : (source : ℕ) → slice_index counts source + length (tuples_to_come (slice_get sources source)) ≤ 2 ^ 62
   pub ends : over ≡ true → (source : ℕ) → tuples_to_come (slice_get sources source) ≡ []
   pub closed : over ≡ true → (source : ℕ) → may_come (slice_get ahead source) ≡ None
 

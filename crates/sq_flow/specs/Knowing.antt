@@ -25,7 +25,7 @@ pub record MayKnow {O : Type 0} (m : Ghosts O) (e : Engine O) (source : ℕ) (mo
   pub may : Fits m (added source more no_tails) e.flow
 
 -- they are known: whatever comes behind them, the flow with it is what it was with them and then with that
-pub record Knows {O : Type 0} (m : Ghosts O) (source : ℕ) (more : List Tuple) (ahead : Option ℕ) (e e' : Engine O) : Type 0 where
+pub record Knows {O : Type 0} (m : Ghosts O) (source : ℕ) (more : List Tuple) (bound : Option ℕ) (e e' : Engine O) : Type 0 where
   pub engine : IsEngine m e'
   pub tails : (tails : Tails) → with_tails (added source more tails) e.flow ≡ with_tails tails e'.flow
-  pub ahead : e'.flow.ahead.items ≡ set e.flow.ahead.items source ahead
+  pub ahead : e'.flow.ahead.items ≡ set e.flow.ahead.items source bound

@@ -40,12 +40,12 @@ pub record IsNewSeat {O : Type 0} (m : Ghosts O) (takes : ℕ → Bool) (fits : 
   pub owns : (table : ℕ → ℕ → ℕ) (future : List Entry) → IsFuture (m.takes_marks seat.op) (m.fits seat.op) Start future
       → AllByRecursion own (m.decides seat.op table future)
 
--- few sources, of each no more than a million known tuples, in the order of times, and from which tick on more may come
+-- few sources, of each no more known tuples than can be counted, in the order of times, and from which tick on more may come
 pub record AreNewSources (sources : List Recorded) (ahead : List (Option ℕ)) : Type 0 where
   pub coming : (source : ℕ) → RiseFrom 0 (tuples_to_come (slice_get sources source))
   pub told : length ahead ≡ length sources
   pub few : length sources < 2 ^ 32
-  pub few_tuples : (source : ℕ) → length (tuples_to_come (slice_get sources source)) ≤ 1000000
+  pub few_tuples : (source : ℕ) → length (tuples_to_come (slice_get sources source)) ≤ 2 ^ 62
 
 -- the parts of a new flow: the operators are joined by these wires, nothing was fed to them, the sources are few and in the order of times, no
 -- level is known, and there are two frames at least

@@ -63,11 +63,11 @@ pub record Fits {O : Type 0} (m : Ghosts O) (tails : Tails) (flow : Flow O) : Ty
   pub may : AreTails flow.ahead.items tails
   pub keeps : IsFlow m (with_tails tails flow)
 
--- all may come that rises behind what is known, no more of a source than is counted
+-- all may come that rises behind what is known, no more of a source than can be counted
 pub record MayCome (sources : List Recorded) (ahead : List (Option ℕ)) (tails : Tails) : Type 0 where
   pub may : AreTails ahead tails
   pub rises : (source : ℕ) → RiseFrom 0 (tuples_to_come (slice_get (joined tails sources) source))
-  pub few : (source : ℕ) → length (tuples_to_come (slice_get (joined tails sources) source)) ≤ 1000000
+  pub few : (source : ℕ) → length (tuples_to_come (slice_get (joined tails sources) source)) ≤ 2 ^ 62
 
 abbrev pub MayFit : {O : Type 0} → Ghosts O → List Recorded → List (Option ℕ) → Flow O → Type 0
 MayFit m sources ahead flow = (tails : Tails) → MayCome sources ahead tails → Fits m tails flow
