@@ -92,14 +92,14 @@ shown-all e none done follow r pages history begun steps told run =
     let a = run.answers told in
     record {
       lines = λ output low.
-          sym (append-nil (lines_of output history)) ∙ ap (λ l. lines_of output history ++ l) (sym (none.lines pages (batch_level r) a.holds output (shown-in e r.network run.network run.sound output low)))
+          sym (append-nil (lines_of output history)) ∙ ap (λ l. lines_of output history ++ l) (sym (none.coming.lines pages (batch_level r) a.holds output (shown-in e r.network run.network run.sound output low)))
           ∙ a.lines output low;
       drops = λ w p there.
           let shed = shed-in e r.network run.network run.sound w p there in
           let first = run.sound.drops in
           let all = run.sound.operators in
           sym (append-nil (drops_of w history))
-          ∙ ap (λ l. drops_of w history ++ l) (sym (none.drops pages (batch_level r) a.holds ((flow_of e).wires.sheds + w) (omega (arith, shed, first, all))))
+          ∙ ap (λ l. drops_of w history ++ l) (sym (none.coming.drops pages (batch_level r) a.holds ((flow_of e).wires.sheds + w) (omega (arith, shed, first, all))))
           ∙ a.drops w p there;
       plans = sym (append-nil (plans_of history)) ∙ ap (λ l. plans_of history ++ l) (sym none.plans) ∙ run.plans.shown;
       took = λ at port arc low is.
@@ -107,11 +107,11 @@ shown-all e none done follow r pages history begun steps told run =
           let there = input-low r.network at port arc (omega (arith, boxes, low)) is in
           let left = a.arcs at port (arc_from r.network arc) (omega (arith, low)) (reads-arc r.network at port arc low is) in
           let all = sym (append-nil (fed_on (flow_of e) at port))
-          ∙ ap (λ l. fed_on (flow_of e) at port ++ l) (sym (none.arcs pages (batch_level r) a.holds at port left.arc (box-in e r.network run.network run.sound at low) left.there)) ∙ left.whole in
+          ∙ ap (λ l. fed_on (flow_of e) at port ++ l) (sym (none.coming.arcs pages (batch_level r) a.holds at port left.arc (box-in e r.network run.network run.sound at low) left.there)) ∙ left.whole in
           ap tuples_in all ∙ kept-given r run.read (follow r run.read) arc there;
-      fed = λ at low. sym (none.fed pages (batch_level r) a.holds at (box-in e r.network run.network run.sound at low)) ∙ a.fed at low;
+      fed = λ at low. sym (none.coming.fed pages (batch_level r) a.holds at (box-in e r.network run.network run.sound at low)) ∙ a.fed at low;
       late = λ at low.
           late-seat (flow_of e) run.sound.engine.flow done at (box-in e r.network run.network run.sound at low)
-          ∙ sym (none.lost pages (batch_level r) a.holds at (box-in e r.network run.network run.sound at low)) ∙ a.late at low;
-      work = (let all = none.work pages (batch_level r) a.holds in let sum = a.work in let counted = run.counted in omega (arith, all, sum, counted));
+          ∙ sym (none.coming.lost pages (batch_level r) a.holds at (box-in e r.network run.network run.sound at low)) ∙ a.late at low;
+      work = (let all = none.coming.work pages (batch_level r) a.holds in let sum = a.work in let counted = run.counted in omega (arith, all, sum, counted));
     }

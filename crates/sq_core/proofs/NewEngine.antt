@@ -1,5 +1,5 @@
 -- A new engine of a network: its seats, and what it releases, holds and gives, are as the law of the start asks; so is what is left, and its replay alone is ready.
-use Rattle.std.proofs.Common.{◌≡◌, ℕ, zero, suc, ◌+◌, ◌-◌, ◌<◌, ◌≤◌, eqb, cond, Bool, true, false, not, ◌||◌, List, [], ◌∷◌, ◌++◌, map, length, Option, Some, None, Vec, slice_get, refl, ap, sym, ◌∙◌, subst, arith, zero-le, inl, inr}
+use Rattle.std.proofs.Common.{◌≡◌, ℕ, zero, suc, ◌+◌, ◌-◌, ◌<◌, ◌≤◌, ◌^◌, eqb, cond, Bool, true, false, not, ◌||◌, List, [], ◌∷◌, ◌++◌, map, length, Option, Some, None, Vec, slice_get, refl, ap, sym, ◌∙◌, subst, arith, zero-le, inl, inr}
 use Rattle.std.specs.List.{All, AllByRecursion, flat_map, range_with_len, sum_by}
 use Rattle.std.specs.declared.alloc.Global.{Global}
 use Rattle.std.proofs.lemmas.Bool.{cases_lt, or_right}
@@ -49,13 +49,15 @@ use Rattle.sq_flow.specs.declared.fed_items.FedItems.{FedItems}
 use Rattle.sq_flow.specs.declared.seats.Seat.{Seat}
 use Rattle.sq_flow.specs.Seats.{rest_at, decides_at, lost_at, taken_at, fed_items_at, position_at, done_at, holds_at}
 use Rattle.sq_flow.specs.Starts.{IsNewSeat, IsNewFlow}
-use Rattle.sq_flow.specs.Flows.{tuples_to_come, RiseFrom, world_of, fed_on, left_on, fed_at_last, items_in, sum_below, taken_in_all}
+use Rattle.sq_flow.specs.Flows.{may_come, tuples_to_come, RiseFrom, world_of, fed_on, left_on, fed_at_last, items_in, sum_below, taken_in_all}
 use Rattle.sq_plan.specs.Arrivals.{arrivals}
 use Rattle.sq_flow.specs.Plans.{IsPlanned, last_arrival, plans_left}
 use Rattle.sq_flow.specs.Readiness.{stands, IsReady}
+use Rattle.sq_flow.specs.Sources.{is_clear}
 use Rattle.sq_flow.specs.Engines.{seat_number, IsEngine}
 use Rattle.sq_flow.specs.Wiring.{net_of, arcs_read, IsOwn}
 use Rattle.sq_flow.proofs.DoneLemmas.{sums-agree}
+use Rattle.sq_core.proofs.KnownLemmas.{known-clear}
 use Rattle.sq_start.specs.Numbers.{IsThere, first_output, ops_of, seat_of_actor, actor_at, reads_of}
 use Rattle.sq_start.specs.Nets.{ComesFrom, AllCome, fed_to, decided_by, drop_decisions, count_fed}
 use Rattle.sq_start.specs.Starts.{IsReadReplay}
@@ -107,9 +109,9 @@ rising (q ∷ queues) s t zero = rise-from 0 q.items s.0 t.0 (first-zero q.items
     first-zero (x ∷ xs) = zero-le
 rising (q ∷ queues) s t (suc source) = rising queues s.1 t.1 source
 
-pub few-queued : (queues : List Recorded) → AllByRecursion (λ xs. length xs ≤ 1000000) (map (λ q. q.items) queues) → (source : ℕ) → length (tuples_to_come (slice_get queues source)) ≤ 1000000
+pub few-queued : (queues : List Recorded) → AllByRecursion (λ xs. length xs ≤ 1000000) (map (λ q. q.items) queues) → (source : ℕ) → length (tuples_to_come (slice_get queues source)) ≤ 2 ^ 62
 few-queued [] few source = zero-le
-few-queued (q ∷ queues) few zero = few.0
+few-queued (q ∷ queues) few zero = (let most = few.0 in omega (arith, most))
 few-queued (q ∷ queues) few (suc source) = few-queued queues few.1 source
 
 -- ---- sums over the actors
@@ -265,7 +267,7 @@ module _ (r : Replay) (read : IsReadReplay r) (places : (d : ℕ) (p : DropPoint
   seat-of actor low = (let count = seated.count in let s = has_item flow.seats.items actor (omega (arith, low, count)) in (s.0, s.1, (seated.seated actor s.0 s.1).started))
 
   module _ (comes : FedMayCome) (seats : Vec (Seat operator.Actor) Global) (queues : Vec Recorded Global) (streams : map (λ q. q.items) queues.items ≡ r.sources) (wires : Wires)
-      (planner : Setting) (levels : LevelTable) (most : ℕ) (new : IsNewFlow wires seats queues planner levels most flow) (pages : Option Pages) where
+      (ahead : List (Option ℕ)) (planner : Setting) (levels : LevelTable) (most : ℕ) (new : IsNewFlow wires seats queues ahead planner levels most flow) (pages : Option Pages) where
     is-new : IsNew r (net_of flow.wires) (world_of actors (batch_level r) (items_in flow pages) flow)
     is-new =
         record {
@@ -340,7 +342,8 @@ only-zero (x ∷ y ∷ ys) once there zero-only =
 
 module _ {O : Type 0} (m : Ghosts O) (n : Network) (sound : IsSound n) (e : Engine O) (is : IsEngine m e)
     (wired : AreWires n e.flow.wires) (many : length e.flow.seats.items ≡ ops_of n) (runs : e.flow.over ≡ false)
-    (bare : (arc : ℕ) → face e.flow.queues arc ≡ record { count = 0; first = None; ended = false }) where
+    (bare : (arc : ℕ) → face e.flow.queues arc ≡ record { count = 0; first = None; ended = false })
+    (known : (source : ℕ) → may_come (slice_get e.flow.ahead.items source) ≡ None) where
   replay-ready : IsReady e.flow (length e.flow.seats.items)
   replay-ready =
       record {
@@ -349,6 +352,7 @@ module _ {O : Type 0} (m : Ghosts O) (n : Network) (sound : IsSound n) (e : Engi
             let none = wired.measured.no_more (length e.flow.seats.items) (omega (arith, many)) in
             let no : None ≡ Some arc = ap (λ l. slice_get l port) (sym none) ∙ here in
             cc no;
+        going = ap (λ b. cond b (is_clear e.flow.sources.items e.flow.ahead.items) true) (eqb_true (length e.flow.seats.items) (length e.flow.seats.items) refl) ∙ known-clear e.flow.sources.items e.flow.ahead.items known;
       }
 
   not-ready : (actor : ℕ) → actor < ops_of n → IsReady e.flow actor → ⊥

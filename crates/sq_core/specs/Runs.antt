@@ -5,7 +5,6 @@ use Rattle.sq_words.specs.Lists.{IsPrefixOf}
 use Rattle.sq_value.specs.declared.Tuple.{Tuple}
 use Rattle.sq_value.specs.Values.{IsStream}
 use Rattle.sq_outside.specs.Disks.{Pages}
-use Rattle.sq_item.specs.declared.Item.{Item}
 use Rattle.sq_graph.specs.Wires.{input_arcs_of}
 use Rattle.sq_oper.specs.declared.outs.Event.{Event}
 use Rattle.sq_oper.specs.Streams.{IsSoundTuple, tuples_in}
@@ -25,14 +24,15 @@ use Rattle.sq_pool.specs.Trust.{Tells}
 use Rattle.sq_queue.specs.Faces.{Together, frames}
 use Rattle.sq_flow.specs.declared.flow.Flow.{Flow}
 use Rattle.sq_flow.specs.declared.engine.State.{State}
-use Rattle.sq_flow.specs.declared.engine.State.TheVariants.{Running, Done, Failed}
+use Rattle.sq_flow.specs.declared.engine.State.TheVariants.{Running, Waiting, Done, Failed}
 use Rattle.sq_flow.specs.declared.seats.Seat.{Seat}
 use Rattle.sq_flow.specs.declared.errors.RunErr.{RunErr}
 use Rattle.sq_flow.specs.declared.errors.RunErr.TheVariants.{TooMuch}
 use Rattle.sq_flow.specs.Events.{lines_of, drops_of}
-use Rattle.sq_flow.specs.Seats.{lost_at, taken_at}
-use Rattle.sq_flow.specs.Wiring.{arcs_read}
-use Rattle.sq_flow.specs.Flows.{HoldsItems, decisions_left, fed_at_last, fed_on, items_in, left_on, lines_left, lost_at_last, taken_in_all, work_at_last}
+use Rattle.sq_flow.specs.Seats.{taken_at}
+use Rattle.sq_flow.specs.Flows.{fed_on, items_in, may_come, taken_in_all}
+use Rattle.sq_flow.specs.Endings.{NothingComes}
+use Rattle.sq_flow.specs.Knowing.{IsHeld}
 use Rattle.sq_flow.specs.Engines.{AllDone, IsEngine}
 use Rattle.sq_flow.specs.Plans.{plans_left, plans_of}
 use Rattle.sq_flow.specs.Takes.{NotChanged}
@@ -63,6 +63,10 @@ pub record IsSoundEngine (e : Engine) : Type 0 where
   pub operators : length (flow_of e).seats.items ≡ ops_of e.network
   pub engine : IsEngine actors e.engine
 
+-- no more comes of any source than is known
+abbrev pub IsAllKnown : Engine → Type 0
+IsAllKnown e = (source : ℕ) → may_come (slice_get (flow_of e).ahead.items source) ≡ None
+
 -- the engine is at work on a replay that was read. History is what it has shown, begun is what the counter of steps said when
 -- nothing was fed, and steps is what it says now
 pub record IsRun (r : Replay) (pages : Option Pages) (engine : Engine) (history : List Event) (begun steps : ℕ) : Type 0 where
@@ -86,16 +90,19 @@ pub record AreReplayParts (n : Network) (sources : List (List Tuple)) (most : �
   pub fit : SourcesFit n sources
   pub frames : 2 ≤ most
 
--- an engine that has released nothing of a replay yet, whose queues have so many frames: its replay alone is ready
+-- an engine that has released nothing yet of a replay of which all is known, whose queues have so many frames: its replay alone is ready
 pub record IsNewEngine (r : Replay) (most : ℕ) (e : Engine) : Type 0 where
   pub sound : IsSoundEngine e
   pub run : (pages : Option Pages) (steps : ℕ) → IsRun r pages e [] steps steps
+  pub known : IsAllKnown e
   pub ready : ready_of e ≡ 0 ∷ []
   pub frames : frames (flow_of e).queues ≡ most
 
--- an engine runs as long as an actor isn't finished, and then one is ready; it is done where all are, and has failed where a step did
+-- an engine runs as long as an actor is ready; else it is done where all actors are finished, and where one isn't it waits for more of a
+-- source. It has failed where a step did
 pub record IsState (e : Engine) (s : State) : Type 0 where
   pub runs : s ≡ Running → (0 < length (ready_of e)) × (has_failed e ≡ false)
+  pub waits : s ≡ Waiting → IsHeld e.engine
   pub done : s ≡ Done → AllDone (flow_of e) × (has_failed e ≡ false)
   pub when_done : has_failed e ≡ false → AllDone (flow_of e) → s ≡ Done
   pub failed : s ≡ Failed → has_failed e ≡ true
@@ -126,23 +133,10 @@ pub record Stopped (honest : Bool) (r : Replay) (history : List Event) (begun st
 abbrev pub tuples_fed : Engine → ℕ → ℕ → List Tuple
 tuples_fed engine at port = tuples_in (fed_on (flow_of engine) at port)
 
--- this holds of the items that stand on the arcs, by whatever pages the disk has, at each table of levels at which the flow holds them
-abbrev pub WhereHeld : Engine → ((ℕ → ℕ → ℕ) → (ℕ → List Item) → Type 0) → Type 0
-WhereHeld e P = (pages : Option Pages) (table : ℕ → ℕ → ℕ) → HoldsItems actors table (items_in (flow_of e) pages) (flow_of e) → P table (items_in (flow_of e) pages)
-
 -- nothing is to come any more: no tuple at an output, no batch of a drop, no mark or tuple on an arc and no plan; and each operator was fed,
 -- and has lost, as many tuples as it will have been fed and have lost at the end
 pub record NothingLeft (e : Engine) : Type 0 where
-  pub lines : WhereHeld e (λ table items. (output : ℕ) → (flow_of e).wires.shown + output < length (flow_of e).seats.items
-      → lines_left actors table items (flow_of e) output ≡ [])
-  pub drops : WhereHeld e (λ table items. (actor : ℕ) → actor < length (flow_of e).seats.items → decisions_left actors table items (flow_of e) actor ≡ [])
-  pub fed : WhereHeld e (λ table items. (actor : ℕ) → actor < length (flow_of e).seats.items
-      → fed_at_last actors table items (flow_of e) actor ≡ taken_at actors (slice_get (flow_of e).seats.items actor))
-  pub lost : WhereHeld e (λ table items. (actor : ℕ) → actor < length (flow_of e).seats.items
-      → lost_at_last actors table items (flow_of e) actor ≡ lost_at actors (slice_get (flow_of e).seats.items actor) [])
-  pub work : WhereHeld e (λ table items. work_at_last actors table items (flow_of e) ≡ taken_in_all actors (flow_of e))
-  pub arcs : WhereHeld e (λ table items. (actor port arc : ℕ) → actor < length (flow_of e).seats.items
-      → slice_get (arcs_read (flow_of e).wires actor) port ≡ Some arc → left_on actors table items (flow_of e) arc ≡ [])
+  pub coming : NothingComes actors (flow_of e)
   pub plans : plans_left (flow_of e) ≡ []
 
 -- how many tuples a box was fed, and how many of them it has neither given nor holds, where it is a BSort

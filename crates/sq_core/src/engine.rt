@@ -9,7 +9,7 @@ ghost use Rattle.sq_pool.specs.Trust.{Tells, known};
 ghost use Rattle.sq_queue.specs.Faces.{Together};
 ghost use Rattle.sq_sched.specs.ReadyLists.{AreActors};
 
-use crate::start::{network_engine, queued};
+use crate::start::{network_engine, none_ahead, queued};
 use sq_actor::Actor;
 use sq_below::early_drop_is_sound;
 use sq_flow::{Progress, RunErr, State};
@@ -43,7 +43,7 @@ impl Drop for Engine {
 impl Engine {
     ghost use Rattle.sq_flow.specs.Engines.{AllDone};
     ghost use Rattle.sq_flow.specs.Stepping.{Remains, stage};
-    ghost use Rattle.sq_core.specs.Runs.{AreReplayParts, IsNewEngine, IsRun, IsSoundEngine, IsState, NothingLeft, SaysWhetherEnded, ShownAll, ShownSoFar};
+    ghost use Rattle.sq_core.specs.Runs.{AreReplayParts, IsAllKnown, IsNewEngine, IsRun, IsSoundEngine, IsState, NothingLeft, SaysWhetherEnded, ShownAll, ShownSoFar};
     ghost use Rattle.sq_core.specs.Runs.{fed_at, flow_of, has_failed, late_at_seat, ready_of};
     ghost use Rattle.sq_core.specs.Steps.{RunFails, RunsOn};
 
@@ -76,7 +76,16 @@ impl Engine {
         requires { AreReplayParts network (map (λ v. v.items) sources.items) frames }
         ensures { IfOk result (IsNewEngine (record { network = network; sources = map (λ v. v.items) sources.items; entries = capacities; seed = seed }) frames) }
     {
-        let engine = network_engine(alloc, &network, sources, &capacities, seed, frames)?;
+        let ahead = none_ahead(alloc, &sources)?;
+        let engine = network_engine(
+            alloc,
+            &network,
+            sources,
+            ahead,
+            &capacities,
+            seed,
+            frames,
+        )?;
         Ok(Engine { network, engine })
     }
 
@@ -110,8 +119,8 @@ impl Engine {
         }
     }
 
-    /// Running as long as an actor isn't finished, and then the ready list isn't empty; done where all are; failed after an
-    /// `Err` of a step.
+    /// Running as long as an actor is ready; else done where all actors are finished, and waiting where the replay must know more of
+    /// a source; failed after an `Err` of a step.
     pub fn state(&self) -> State
         requires { has_failed self.now ≡ false → IsSoundEngine self.now }
         ensures { IsState self.now result }
@@ -119,13 +128,15 @@ impl Engine {
         self.engine.state()
     }
 
-    /// Whether no step may follow: all actors are finished, or a step failed.
+    /// Whether no step may follow, where all is known that comes: all actors are finished, or a step failed.
     pub fn ended(&self) -> bool
-        requires { has_failed self.now ≡ false → IsSoundEngine self.now }
+        requires sound { has_failed self.now ≡ false → IsSoundEngine self.now }
+        requires known { IsAllKnown self.now }
         ensures { SaysWhetherEnded self.now result }
     {
         match self.state() {
             State::Running => false,
+            State::Waiting => unreachable!(),
             State::Done => true,
             State::Failed => true,
         }

@@ -1,6 +1,6 @@
 //! The engine over the operators of a network, to which nothing was fed.
 
-ghost use Rattle.std.specs.Prelude.{◌≡◌, IfOk, map};
+ghost use Rattle.std.specs.Prelude.{◌≡◌, IfOk, None, length, map, replicate};
 ghost use Rattle.sq_core.specs.Runs.{AreReplayParts, IsNewEngine};
 
 use crate::network::network_wires;
@@ -28,17 +28,26 @@ pub(crate) fn queued(alloc: Global, sources: Vec<Vec<Tuple>>) -> Result<Vec<Stre
     Ok(streams)
 }
 
+/// No more comes of any source than is known.
+pub(crate) fn none_ahead(alloc: Global, sources: &Vec<Stream>) -> Result<Vec<Option<u64>>, AllocError>
+    ensures { IfOk result (λ ahead. ahead.items ≡ replicate (length sources.now.items) None) }
+{
+    vec![in alloc; None; sources.len()]
+}
+
 /// An engine over the boxes, window drops and outputs of a sound network, to which nothing was fed, and which has released
 /// nothing of what the sources recorded.
 pub(crate) fn network_engine(
     alloc: Global,
     n: &Network,
     sources: Vec<Stream>,
+    ahead: Vec<Option<u64>>,
     capacities: &Capacities,
     seed: u64,
     frames: u32,
 ) -> Result<Engine<Actor>, AllocError>
-    requires { AreReplayParts n.now (map (λ v. v.items) sources.items) frames }
+    requires parts { AreReplayParts n.now (map (λ v. v.items) sources.items) frames }
+    requires known { ahead.items ≡ replicate (length sources.items) None }
     ensures { IfOk result (λ e. IsNewEngine (record { network = n.now; sources = map (λ v. v.items) sources.items; entries = capacities.now; seed = seed }) frames
         (record { network = n.now; engine = e })) }
 {
@@ -50,6 +59,6 @@ pub(crate) fn network_engine(
     let seats = network_seats(alloc, n, &points, seed)?;
     let planner = network_planner(alloc, n, &points, capacities)?;
     let levels = Levels::new(alloc, n.epoch);
-    let engine = Engine::new(alloc, wires, seats, sources, planner, levels, frames)?;
+    let engine = Engine::new(alloc, wires, seats, sources, ahead, planner, levels, frames)?;
     Ok(engine)
 }

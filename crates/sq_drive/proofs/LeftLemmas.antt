@@ -34,6 +34,7 @@ stepped_behind was is from to es xs s = record {
   together = s.together;
   tells = s.tells;
   wires = s.wires;
+  ahead = s.ahead;
   framed = s.framed;
   seats = s.seats;
   closes = s.closes;

@@ -1,6 +1,7 @@
 -- Turns of a run, one after another, to its end, or to the one that fails.
-use Rattle.std.proofs.Common.{◌≡◌, ℕ, ◌≤◌, ◌^◌, List, [], ◌++◌, ap, sym, ◌∙◌, subst, refl, arith, append_assoc, append-nil}
+use Rattle.std.proofs.Common.{◌≡◌, ℕ, Option, Vec, slice_get, ◌≤◌, ◌^◌, List, [], ◌++◌, ap, sym, ◌∙◌, subst, refl, arith, append_assoc, append-nil}
 use Rattle.std.specs.List.{AllByRecursion}
+use Rattle.std.specs.declared.alloc.Global.{Global}
 use Rattle.sq_net.specs.declared.Network.{Network}
 use Rattle.sq_oper.specs.declared.outs.Event.{Event}
 use Rattle.sq_sched.specs.declared.policy.Pick.{Pick}
@@ -10,7 +11,7 @@ use Rattle.sq_pool.specs.Trust.{Tells, known}
 use Rattle.sq_pool.proofs.TrustLemmas.{IsLater-refl, IsLater-trans}
 use Rattle.sq_flow.specs.declared.errors.RunErr.{RunErr}
 use Rattle.sq_flow.specs.declared.steps.Progress.{Progress}
-use Rattle.sq_flow.specs.Flows.{Stepped}
+use Rattle.sq_flow.specs.Flows.{Stepped, may_come}
 use Rattle.sq_flow.specs.Stepping.{Stage}
 use Rattle.sq_flow.proofs.CauseLemmas.{page-since}
 use Rattle.sq_flow.proofs.StepLemmas.{stepped-none}
@@ -55,6 +56,7 @@ goes_none a can = record {
   left = stepped-none actors (known a.log) (flow_of a.engine) [] can.sound.engine.flow can.together;
   runs = λ r history begun run. subst (λ xs. IsRun r (known a.log) a.engine xs begun a.steps) (sym (append-nil history)) run;
   sound = can.sound;
+  known = can.known;
 }
 
 module _ (n : Network) (a b : RunState) (events : List Event) (first : GoesOn n a b events) where
@@ -67,6 +69,7 @@ module _ (n : Network) (a b : RunState) (events : List Event) (first : GoesOn n 
         subst (λ xs. IsRun r (known c.log) c.engine xs begun c.steps) (append_assoc history events more)
         (second.runs r (history ++ events) begun (first.runs r history begun run));
     sound = second.sound;
+    known = second.known;
   }
 
   -- the next one fails
@@ -111,12 +114,13 @@ module _ (a b : RunState) (cleared shown : List Event) (none : cleared ≡ []) w
   run_here : (r : Replay) (history : List Event) (begun : ℕ) → IsRun r (known a.log) a.engine history begun a.steps → IsRun r (known a.log) a.engine (history ++ cleared) begun a.steps
   run_here r history begun run = subst (λ xs. IsRun r (known a.log) a.engine xs begun a.steps) (sym (ap (λ xs. history ++ xs) none ∙ append-nil history)) run
 
-  pub goes_here : (pick : Pick) (p : Progress) → RunsOn pick (stage_at a cleared) (stage_at b shown) a.engine b.engine p → GoesOn a.engine.network a b shown
-  goes_here pick p on = record {
+  pub goes_here : IsDrivable (known a.log) a.engine → (pick : Pick) (p : Progress) → RunsOn pick (stage_at a cleared) (stage_at b shown) a.engine b.engine p → GoesOn a.engine.network a b shown
+  goes_here can pick p on = record {
     there = on.shows (subst (AllByRecursion (IsEventAt a.engine.network)) (sym none) tt);
     left = subst (λ xs. Stepped actors (known a.log) (known b.log) (flow_of a.engine) (flow_of b.engine) xs shown) none on.step.train.moves.stepped;
     runs = λ r history begun run. on.run r history begun (run_here r history begun run);
     sound = on.sound;
+    known = λ source. ap (λ (v : Vec (Option ℕ) Global). may_come (slice_get v.items source)) on.step.train.moves.stepped.ahead ∙ can.known source;
   }
 
   -- it failed

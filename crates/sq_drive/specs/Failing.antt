@@ -11,7 +11,7 @@ use Rattle.sq_flow.specs.declared.errors.RunErr.{RunErr}
 use Rattle.sq_flow.specs.Flows.{FailsAt, Stepped}
 use Rattle.sq_core.specs.declared.engine.Engine.{Engine}
 use Rattle.sq_core.specs.Meanings.{actors}
-use Rattle.sq_core.specs.Runs.{IsRun, tuples_fed, flow_of}
+use Rattle.sq_core.specs.Runs.{IsAllKnown, IsRun, tuples_fed, flow_of}
 use Rattle.sq_status.specs.declared.Status.{Status}
 use Rattle.sq_work.specs.Scripts.{AcceptedReplay}
 use Rattle.sq_due.specs.Due.{replayed}
@@ -36,9 +36,10 @@ pub record CameTo (was is : DiskLog) (from : Engine) (s : Status) (to : Engine) 
   pub named : status_of error ≡ s
   pub fails : FailsAt actors was is (flow_of from) (flow_of to) [] error
 
--- a new engine of what was accepted: one that was fed nothing and has shown nothing, with as many frames as are named
+-- a new engine of what was accepted, of which all is known: one that was fed nothing and has shown nothing, with as many frames as are named
 pub record IsNewOf (r : AcceptedReplay) (engine : Engine) : Type 0 where
   pub run : (pages : Option Pages) (steps : ℕ) → IsRun (replayed r) pages engine [] steps steps
+  pub known : IsAllKnown engine
   pub framed : frames (flow_of engine).queues ≡ r.frames
 
 -- between these logs of the disk the engine came to fail, with the error of this status, from a new engine of what was accepted

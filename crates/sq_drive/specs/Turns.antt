@@ -17,7 +17,7 @@ use Rattle.sq_flow.specs.Engines.{AllDone}
 use Rattle.sq_flow.specs.Flows.{Stepped}
 use Rattle.sq_core.specs.declared.engine.Engine.{Engine}
 use Rattle.sq_core.specs.Meanings.{actors}
-use Rattle.sq_core.specs.Runs.{IsRun, IsSoundEngine, ShownAll, flow_of}
+use Rattle.sq_core.specs.Runs.{IsAllKnown, IsRun, IsSoundEngine, ShownAll, flow_of}
 use Rattle.sq_status.specs.declared.Status.{Status}
 use Rattle.sq_due.specs.declared.audience.Audience.{Ghosts}
 use Rattle.sq_due.specs.declared.counting.Counts.{Counts}
@@ -50,9 +50,10 @@ pub record Moment (A O : Type 0) : Type 0 where
 abbrev pub moment : {D A O : Type 0} → DiskGhosts D → Engine → D → ℕ → A → O → Moment A O
 moment tells engine disk steps audience out = record { run = run_state tells engine disk steps; audience = audience; out = out }
 
--- an engine can be driven: it is sound, and its queues go with what is known of the pages
+-- an engine can be driven: it is sound, all is known that its sources give, and its queues go with what is known of the pages
 pub record IsDrivable (pages : Option Pages) (engine : Engine) : Type 0 where
   pub sound : IsSoundEngine engine
+  pub known : IsAllKnown engine
   pub together : Together (flow_of engine).queues pages
 
 -- so it can, before an audience that may be shown its events
@@ -73,6 +74,7 @@ pub record GoesOn (n : Network) (before after : RunState) (events : List Event) 
   pub runs : (r : Replay) (history : List Event) (begun : ℕ)
       → IsRun r (known before.log) before.engine history begun before.steps → IsRun r (known after.log) after.engine (history ++ events) begun after.steps
   pub sound : IsSoundEngine after.engine
+  pub known : IsAllKnown after.engine
 
 -- they lead on to the end of the run: these events show exactly what was pending, and where the disk is known they make the history of any run
 -- that it is the whole answer

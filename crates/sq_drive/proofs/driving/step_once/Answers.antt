@@ -11,7 +11,7 @@ show-requires g c =
     let a = moment g.D.PageDisk c.args.engine.now c.args.disk.now c.args.steps.now c.args.audience.now c.args.out.now in
     let b = moment g.D.PageDisk c.step.new.self c.step.new.disk c.step.new.steps c.args.audience.now c.args.out.now in
     rw (c.as_slice.ensures.value, c.step.ensures.network)
-    (record { there = (goes_here a.run b.run _ _ c.clear.ensures.items _ _ c.in-Ok.ensures.ok).there; ready = c.requires.ready.audience })
+    (record { there = (goes_here a.run b.run _ _ c.clear.ensures.items c.requires.ready.engine _ _ c.in-Ok.ensures.ok).there; ready = c.requires.ready.audience })
 
 pub returns-in-Ok-clause-keeps : goal.returns-in-Ok-clause-keeps
 returns-in-Ok-clause-keeps g c = record { network = c.step.ensures.network; later = c.step.ensures.keeps.later; faults = c.step.ensures.keeps.faults }
@@ -27,14 +27,14 @@ returns-in-Ok-clause-ok g c =
     let a = moment g.D.PageDisk c.args.engine.now c.args.disk.now c.args.steps.now c.args.audience.now c.args.out.now in
     let b = moment g.D.PageDisk c.step.new.self c.step.new.disk c.step.new.steps c.show.new.self c.show.new.out in
     on-ok-both c.show.result (rw (c.as_slice.ensures.value, c.step.ensures.network) at c.show.ensures.ok) (rw c.step.ensures.network at c.show.ensures.ready)
-    (turn_on g.A.Audience c.args.engine.now.network a b _ (goes_here a.run b.run _ _ c.clear.ensures.items _ _ c.in-Ok.ensures.ok))
+    (turn_on g.A.Audience c.args.engine.now.network a b _ (goes_here a.run b.run _ _ c.clear.ensures.items c.requires.ready.engine _ _ c.in-Ok.ensures.ok))
 
 pub returns-in-Ok-clause-err : goal.returns-in-Ok-clause-err
 returns-in-Ok-clause-err g c =
     let a = moment g.D.PageDisk c.args.engine.now c.args.disk.now c.args.steps.now c.args.audience.now c.args.out.now in
     let b = moment g.D.PageDisk c.step.new.self c.step.new.disk c.step.new.steps c.show.new.self c.show.new.out in
     if_err (TurnFails g.A.Audience c.args.engine.now.network a b) c.show.result (rw (c.as_slice.ensures.value, c.step.ensures.network) at c.show.ensures.err)
-    (turn_lost g.A.Audience c.args.engine.now.network a b _ (goes_here a.run b.run _ _ c.clear.ensures.items _ _ c.in-Ok.ensures.ok))
+    (turn_lost g.A.Audience c.args.engine.now.network a b _ (goes_here a.run b.run _ _ c.clear.ensures.items c.requires.ready.engine _ _ c.in-Ok.ensures.ok))
 
 pub returns-in-Err-clause-err : goal.returns-in-Err-clause-err
 returns-in-Err-clause-err g c =

@@ -17,7 +17,7 @@ pub step_once-requires-clause-ready : goal.step_once-requires-clause-ready
 step_once-requires-clause-ready g c =
     let before = c.steps.invariant in
     record {
-      engine = record { sound = before.on.goes.sound; together = before.on.goes.left.together };
+      engine = record { sound = before.on.goes.sound; known = before.on.goes.known; together = before.on.goes.left.together };
       audience = subst (g.A.Audience.ready c.steps.audience) (sym before.keeps.network) before.on.ready;
     }
 
@@ -64,7 +64,7 @@ returns-in-Ok-close-clause-ok g c =
       ends = record {
         on = on.goes;
         done = c.steps-test.ensures.done on.goes.sound.engine.running refl;
-        rest = rest_shown was is c.args.engine.now c.requires.engine.sound c.steps.engine on.events on.goes.left none.plans none.lines none.drops;
+        rest = rest_shown was is c.args.engine.now c.requires.engine.sound c.steps.engine on.events on.goes.left none.plans none.coming.lines none.coming.drops;
         all = λ told r history begun run. c.all_shown.ensures r is (history ++ on.events) begun c.steps.steps told (on.goes.runs r history begun run);
       };
       whole = λ from history shown. c.in-Ok-close.ensures.ok from c.args.engine.now.network (history ++ on.events) (on.shown from history shown);

@@ -22,10 +22,10 @@ returns-in-Err-clause-cut g c for folder folder' messages messages' asked =
     (λ told. part_waits c.args.report r c.requires.sound (g.S.Sink.written c.args.out.now) c.in-Err.status) (λ told. omega arith)
 
 pub drive-requires : goal.drive-requires
-drive-requires g c = let run = c.in-Ok.ensures.new.run _ c.args.steps.now in record { sound = run.sound; together = run.together }
+drive-requires g c = let run = c.in-Ok.ensures.new.run _ c.args.steps.now in record { sound = run.sound; known = c.in-Ok.ensures.new.known; together = run.together }
 
 pub count-requires : goal.count-requires
-count-requires g c = let run = c.in-Ok.ensures.new.run _ c.args.steps.now in record { sound = run.sound; together = run.together }
+count-requires g c = let run = c.in-Ok.ensures.new.run _ c.args.steps.now in record { sound = run.sound; known = c.in-Ok.ensures.new.known; together = run.together }
 
 pub write_ends-requires-clause-first : goal.write_ends-requires-clause-first
 write_ends-requires-clause-first g c =

@@ -25,7 +25,7 @@ returns-in-Err-clause-err g c =
       failed = c.in-Err.ensures.failed;
       stopped = stopped-after (known (g.D.PageDisk.log c.args.disk.now)) (known (g.D.PageDisk.log c.step.new.disk)) c.args.self.now (record c.args.self.now { engine = c.step.new.self })
           c.args.events.now.items c.step.new.events.items refl (g.D.PageDisk.log c.args.disk.now).honest step.keeps.later.known c.args.steps.now c.step.new.steps c.in-Err.e
-          step.prefix step.plans step.cost step.strange step.too_much;
+          step.short.prefix step.short.plans step.short.cost step.short.strange step.short.too_much;
     }
 
 pub returns-in-Ok-clause-keeps : goal.returns-in-Ok-clause-keeps
