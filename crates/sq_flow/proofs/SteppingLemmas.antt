@@ -1,30 +1,35 @@
 -- A step, and a train as one step after another.
-use Rattle.std.proofs.Common.{◌≡◌, ℕ, ◌+◌, ◌≤◌, true, false, le_refl, le_trans, refl, subst, sym, arith, inl, inr}
+use Rattle.std.proofs.Common.{◌≡◌, ◌≢◌, ℕ, ◌+◌, ◌≤◌, true, false, le_refl, le_trans, refl, subst, sym, arith, inl, inr}
 use Rattle.std.specs.Prelude.{List, Vec, Option, Result, Ok, Err, IfOk, IfErr, slice_get}
 use Rattle.std.specs.declared.alloc.Global.{Global}
 use Rattle.sq_outside.specs.Disks.{DiskLog}
 use Rattle.sq_road.specs.Levels.{AgreesWith}
 use Rattle.sq_oper.specs.declared.operator.Operator.{Ghosts}
 use Rattle.sq_oper.specs.declared.outs.Event.{Event}
-use Rattle.sq_pool.specs.Trust.{IsLater, known}
+use Rattle.sq_pool.specs.Trust.{IsLater, Tells, known}
 use Rattle.sq_pool.proofs.TrustLemmas.{IsLater-refl, IsLater-trans}
 use Rattle.sq_queue.specs.Faces.{Together}
+use Rattle.sq_replay.specs.RecordedTuples.{Recorded}
 use Rattle.sq_words.proofs.Prefixes.{prefix_along, prefix_itself}
 use Rattle.sq_flow.specs.declared.flow.Flow.{Flow}
 use Rattle.sq_flow.specs.declared.flow.Did.{Did}
 use Rattle.sq_flow.specs.declared.flow.Did.TheVariants.{Waits, Fed, Finished}
 use Rattle.sq_flow.specs.declared.errors.RunErr.{RunErr}
-use Rattle.sq_flow.specs.Causes.{IsFeedCause}
+use Rattle.sq_flow.specs.declared.errors.RunErr.TheVariants.{TooMuch}
+use Rattle.sq_flow.specs.Causes.{IsFeedCause, IsCauseIn}
+use Rattle.sq_flow.specs.Takes.{NotChanged}
+use Rattle.sq_flow.specs.Events.{lines_of, drops_of}
 use Rattle.sq_flow.specs.Flows.{IsFlow, Stepped, ShowsPrefix, NoneStrange, CostsFed, TooMuchOnly, measure_of}
 use Rattle.sq_flow.specs.Plans.{PlansPrefix, plans_of}
-use Rattle.sq_flow.specs.Tails.{Tails, AreTails, Whatever, Fits, with_tails}
+use Rattle.sq_flow.specs.Tails.{Tails, AreTails, Whatever, Fits, joined_in, closed_in, with_tails}
 use Rattle.sq_flow.specs.Readiness.{IsReady, Took}
 use Rattle.sq_flow.specs.Seats.{done_at}
 use Rattle.sq_flow.specs.Stepping.{Stage, stage_on, Remains, StepsTo, Proceeds, MayStep, StepOk, StepWhole, TrainOk, FailsAt, FallsShort, StepErr}
 use Rattle.sq_flow.proofs.FedFlow.{costs-none}
 use Rattle.sq_flow.proofs.ReleasedPlans.{plans-stay}
+use Rattle.sq_flow.proofs.ReplayFlow.{lines-stay}
 use Rattle.sq_flow.proofs.StepLemmas.{stepped-none, stepped-both, prefix-after, plans-after, none-strange-after, costs-after, costs-most-after, too-much-after}
-use Rattle.sq_flow.proofs.CauseLemmas.{cause-since}
+use Rattle.sq_flow.proofs.CauseLemmas.{cause-since, none-too-much}
 use Rattle.sq_flow.proofs.TouchLemmas.{touches-none, touches-both}
 use Rattle.sq_flow.proofs.TookLemmas.{took-both, took-last}
 
@@ -59,6 +64,10 @@ module _ {O : Type 0} (m : Ghosts O) (n : ℕ) (failed : Option RunErr) (before 
   pub err-at : (r : Result Did RunErr) → IfErr r (λ e. (k : ℕ) → StepErr m (before k) (after k) e) → IfErr r (StepErr m (before n) (after n))
   err-at r h = if-err r _ _ (λ e told. told n) h
 
+-- the flow with other sources
+abbrev pub sourced : {O : Type 0} → Flow O → Vec Recorded Global → Vec (Option ℕ) Global → Flow O
+sourced f sources ahead = record f { sources = sources; ahead = ahead }
+
 module _ {O : Type 0} (m : Ghosts O) where
   -- what may come before a step may come behind it
   pub fits-after : (f f1 : Flow O) (tails : Tails) → f1.ahead ≡ f.ahead → IsFlow m (with_tails tails f1) → Fits m tails f → Fits m tails f1
@@ -79,18 +88,44 @@ module _ {O : Type 0} (m : Ghosts O) where
         feed = cause;
       }
 
-  -- a step that failed before it fed anything, and closed no level
-  pub short-unfed : (a b : Stage O) (e : RunErr) → IsFlow m a.flow → b.flow.levels ≡ a.flow.levels → b.steps ≡ a.steps → plans_of b.events ≡ plans_of a.events
-      → ShowsPrefix m (known a.log) (known b.log) a.flow a.flow.levels a.events b.events → NoneStrange m a.log.honest (known a.log) (known b.log) a.flow a.flow.levels e
-      → TooMuchOnly m (known a.log) (known b.log) a.flow b.flow e → FallsShort m a b e
-  short-unfed a b e flow levels steps plans prefix strange too_much =
+  -- a step that failed before it fed anything, and showed no tuple and no decision
+  pub short-silent : (a b : Stage O) (e : RunErr) → IsFlow m a.flow → b.steps ≡ a.steps → ((o : ℕ) → lines_of o b.events ≡ lines_of o a.events) → ((w : ℕ) → drops_of w b.events ≡ drops_of w a.events)
+      → PlansPrefix a.flow b.flow.levels a.events b.events → (Tells (known b.log) → NotChanged a.log.honest e) → e ≢ TooMuch → FallsShort m a b e
+  short-silent a b e flow steps lines drops plans strange counts =
       record {
-        prefix = rw levels prefix;
-        plans = subst (λ l. PlansPrefix a.flow l a.events b.events) (sym levels) (plans-stay a.flow a.events b.events plans);
-        strange = rw levels strange;
+        prefix = lines-stay m (known a.log) (known b.log) a.flow b.flow.levels a.events b.events lines drops;
+        plans = plans;
+        strange = λ told table agrees holds. strange told;
         cost = costs-none m a.flow flow (known a.log) (known b.log) b.flow.levels a.steps b.steps steps;
-        too_much = too_much;
+        too_much = none-too-much m (known a.log) (known b.log) a.flow b.flow e counts;
       }
+
+  -- a step of an operator that failed before it fed anything: it touches no source, and closes no level
+  pub err-unfed : (a b : Stage O) (e : RunErr) → IsFlow m a.flow → Remains a b → b.flow.levels ≡ a.flow.levels → b.steps ≡ a.steps → plans_of b.events ≡ plans_of a.events
+      → ((sources : Vec Recorded Global) (ahead : Vec (Option ℕ) Global) → IsFlow m (sourced a.flow sources ahead) → ShowsPrefix m (known a.log) (known b.log) (sourced a.flow sources ahead) a.flow.levels a.events b.events)
+      → ((sources : Vec Recorded Global) (ahead : Vec (Option ℕ) Global) → IsFlow m (sourced a.flow sources ahead) → NoneStrange m a.log.honest (known a.log) (known b.log) (sourced a.flow sources ahead) a.flow.levels e)
+      → ((sources sources' : Vec Recorded Global) (ahead ahead' : Vec (Option ℕ) Global) → IsFlow m (sourced a.flow sources ahead) → TooMuchOnly m (known a.log) (known b.log) (sourced a.flow sources ahead) (sourced b.flow sources' ahead') e)
+      → IsCauseIn b.flow a.log b.log a.faults b.faults e → FailsAt m a.log b.log a.flow b.flow a.events e → StepErr m a b e
+  err-unfed a b e flow keeps levels steps plans prefix strange too_much cause feed =
+      record {
+        keeps = keeps;
+        closes = λ table agrees. rw (sym levels) agrees;
+        short = short a.flow.sources b.flow.sources a.flow.ahead b.flow.ahead flow;
+        on = λ tails fits. short (joined_in tails a.flow.sources) (joined_in tails b.flow.sources) (closed_in a.flow.ahead) (closed_in b.flow.ahead) fits.keeps;
+        cause = cause;
+        feed = feed;
+      }
+    where
+      short : (sources sources' : Vec Recorded Global) (ahead ahead' : Vec (Option ℕ) Global) → IsFlow m (sourced a.flow sources ahead)
+          → FallsShort m (record a { flow = sourced a.flow sources ahead }) (record b { flow = sourced b.flow sources' ahead' }) e
+      short sources sources' ahead ahead' sound =
+          record {
+            prefix = rw levels (prefix sources ahead sound);
+            plans = subst (λ l. PlansPrefix (sourced a.flow sources ahead) l a.events b.events) (sym levels) (plans-stay (sourced a.flow sources ahead) a.events b.events plans);
+            strange = rw levels (strange sources ahead sound);
+            cost = costs-none m (sourced a.flow sources ahead) sound (known a.log) (known b.log) b.flow.levels a.steps b.steps steps;
+            too_much = too_much sources sources' ahead ahead' sound;
+          }
 
   -- nothing was done
   pub moves-none : (actor : ℕ) (a : Stage O) → IsFlow m a.flow → Together a.flow.queues (known a.log) → Proceeds m actor a a

@@ -1,6 +1,6 @@
 //! The run of operators, one atomic step at a time.
 
-ghost use Rattle.std.specs.Prelude.{◌≡◌, ◌≢◌, ℕ, ◌^◌, ◌<◌, ◌∷◌, ◌||◌, false, [], OnOk, OnErr, IfOk, IfErr, IfSome, length, slice_get};
+ghost use Rattle.std.specs.Prelude.{◌≡◌, ◌≢◌, ℕ, ◌^◌, ◌<◌, ◌∷◌, ◌||◌, true, false, None, [], OnOk, OnErr, IfOk, IfErr, IfSome, length, slice_get};
 ghost use Rattle.sq_pool.specs.Trust.{known};
 ghost use Rattle.sq_queue.specs.Faces.{face, size};
 ghost use Rattle.sq_flow.specs.Sends.{KeepsItems, EndsOnly};
