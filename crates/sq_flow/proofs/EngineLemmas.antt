@@ -1,7 +1,11 @@
 -- An engine after a step of one actor.
-use Rattle.std.proofs.Common.{◌≡◌, ◌≢◌, ℕ, ◌+◌, ◌<◌, ◌≤◌, eqb, ltb, leb, cond, Bool, true, false, not, ◌||◌, ◌&&◌, List, [], ◌∷◌, ◌++◌, length, get_or, refl, ap, sym, ◌∙◌, subst, arith}
+use Rattle.std.proofs.Common.{◌≡◌, ◌≢◌, ℕ, zero, suc, ◌+◌, ◌-◌, ◌^◌, ◌<◌, ◌≤◌, eqb, ltb, leb, cond, Bool, true, false, not, ◌||◌, ◌&&◌, List, [], ◌∷◌, ◌++◌, length, map, get_or, refl, ap, sym, ◌∙◌, subst, arith}
+use Rattle.std.specs.Prelude.{min, sum, slice_get}
 use Rattle.std.proofs.Math.Bool.{or-false, and-true, and-false}
-use Rattle.std.specs.List.{filter, range_with_len}
+use Rattle.std.specs.List.{filter, list_all, range_with_len}
+use Rattle.sq_queue.specs.Faces.{face}
+use Rattle.sq_flow.specs.Seats.{done_at}
+use Rattle.sq_flow.specs.Sources.{is_clear}
 use Rattle.std.proofs.lemmas.Bool.Decides.{nat_tests}
 use Rattle.sq_sched.specs.ReadyLists.{without_actor, AreActors, OnlyOnce}
 use Rattle.sq_sched.proofs.ReadyLemmas.{once-without, without-gone, without-others, actors-without}
@@ -10,12 +14,12 @@ use Rattle.sq_oper.specs.declared.operator.Operator.{Ghosts}
 use Rattle.sq_flow.specs.declared.flow.Flow.{Flow}
 use Rattle.sq_flow.specs.declared.wires.Wires.{Wires}
 use Rattle.sq_flow.specs.declared.engine.Engine.{Engine}
-use Rattle.sq_flow.specs.Wiring.{followers_of, Climbs, IsShaped}
+use Rattle.sq_flow.specs.Wiring.{arcs_read, followers_of, Climbs, IsShaped}
 use Rattle.sq_flow.specs.Flows.{IsFlow}
-use Rattle.sq_flow.specs.Readiness.{is_ready, waiting, TouchesOnly}
+use Rattle.sq_flow.specs.Readiness.{stands, is_ready, waiting, TouchesOnly}
 use Rattle.sq_flow.specs.Engines.{seat_number, ExactFor, is_new, newly_ready, listed_after, readers_of, Looked, HasSeats, IsEngine}
 use Rattle.sq_flow.proofs.ListLemmas.{contains-range, climbs-filter, climbs-range, climbs-next, climbs-same, once-climbs}
-use Rattle.sq_flow.proofs.ReadyLemmas.{exact-of, exact-test, place-within, place-apart, readers-at, readers-within, ready-same, waiting-same, ready-grows, looked-at, looked-once, looked-below}
+use Rattle.sq_flow.proofs.ReadyLemmas.{exact-of, exact-test, place-next, place-within, place-apart, readers-at, readers-within, ready-same, waiting-same, ready-grows, looked-at, looked-once, looked-below}
 use Rattle.sq_words.specs.Lists.{contains_number}
 use Rattle.std.proofs.lemmas.Map.Views.{exact_unsigned_eq}
 use Rattle.sq_words.proofs.Lists.{contains_filter}
@@ -62,18 +66,18 @@ module _ {O : Type 0} (e e' : Flow O) (shaped : IsShaped e.wires (length e.seats
     grows : contains_number before x ≡ true → ready x ≡ true
     grows h =
         ap (is_ready e') (same-place x)
-        ∙ ready-grows e e' shaped wires (seat_number (length e.seats.items) actor) touches (seat_number (length e.seats.items) x) others-low others-apart (sym (exact-test e before x (exact x in')) ∙ h)
+        ∙ ready-grows e e' shaped wires seats (seat_number (length e.seats.items) actor) touches (seat_number (length e.seats.items) x) others-low others-apart (sym (exact-test e before x (exact x in')) ∙ h)
 
     stays : contains_number readers x ≡ false → ready x ≡ contains_number before x
     stays h =
         ap (is_ready e') (same-place x)
-        ∙ ready-same e e' shaped wires (seat_number (length e.seats.items) actor) touches (seat_number (length e.seats.items) x) others-low others-apart (sym (readers-follow x in') ∙ h)
+        ∙ ready-same e e' shaped wires seats (seat_number (length e.seats.items) actor) touches (seat_number (length e.seats.items) x) others-low others-apart (sym (readers-follow x in') ∙ h)
         ∙ sym (exact-test e before x (exact x in'))
 
     pub waits-on : contains_number readers x ≡ false → waiting e' (seat_number (length e'.seats.items) x) ≡ waiting e (seat_number (length e.seats.items) x)
     waits-on h =
         ap (waiting e') (same-place x)
-        ∙ waiting-same e e' shaped wires (seat_number (length e.seats.items) actor) touches (seat_number (length e.seats.items) x) others-apart (sym (readers-follow x in') ∙ h)
+        ∙ waiting-same e e' shaped wires seats (seat_number (length e.seats.items) actor) touches (seat_number (length e.seats.items) x) others-apart (sym (readers-follow x in') ∙ h)
 
   gone : contains_number (without_actor actor before) actor ≡ false
   gone = without-gone actor before once
@@ -313,3 +317,83 @@ module _ {O : Type 0} (m : Ghosts O) (a b : Engine O) (flow : IsFlow m a.flow) (
           let are = actors-are in
           omega (arith, low, same, are)
       within x false e h = absurd (cc h)
+
+-- an engine that waited, after more is known of a source
+module _ {O : Type 0} (m : Ghosts O) (a b c : Engine O) (engine : IsEngine m a) (empty : a.ready.list ≡ []) (flow : IsFlow m b.flow)
+    (wires : b.flow.wires ≡ a.flow.wires) (seats : b.flow.seats ≡ a.flow.seats) (over : b.flow.over ≡ a.flow.over) (queues : b.flow.queues ≡ a.flow.queues)
+    (list : b.ready ≡ a.ready) (waits : b.waits ≡ a.waits) (failed : b.failed ≡ a.failed) (looked : Looked (0 ∷ []) b c) where
+  now-listed : c.ready.list ≡ filter (is_new b.flow []) (0 ∷ [])
+  now-listed = looked.list ∙ ap (λ xs. xs ++ filter (is_new b.flow xs) (0 ∷ [])) (ap (λ r. r.list) list ∙ empty)
+
+  ops-same : length b.flow.seats.items ≡ length a.flow.seats.items
+  ops-same = ap (λ v. length v.items) seats
+
+  -- an operator is as ready as it was: it wasn't
+  never : (x : ℕ) → x ≢ 0 → x ≤ length b.flow.seats.items → is_ready b.flow (seat_number (length b.flow.seats.items) x) ≡ false
+  never zero ne low = absurd (ne refl)
+  never (suc k) ne low =
+      let here = place-next (length b.flow.seats.items) k in
+      let was = exact-test a.flow a.ready.list (suc k) (engine.exact (suc k) (omega (arith, low, ops-same))) in
+      let none : is_ready a.flow k ≡ false = ap (is_ready a.flow) (sym (place-next (length a.flow.seats.items) k)) ∙ sym was ∙ ap (λ xs. contains_number xs (suc k)) empty in
+      ap (is_ready b.flow) here ∙ same k (λ e. omega (arith, e, low)) ∙ none
+    where
+      same : (k : ℕ) → k ≢ length b.flow.seats.items → is_ready b.flow k ≡ is_ready a.flow k
+      same k away =
+          ap (λ g. not (done_at b.flow.over (slice_get b.flow.seats.items k)) && (list_all (λ arc. stands (face b.flow.queues arc)) (arcs_read b.flow.wires k) && g))
+          (ap (λ t. cond t (is_clear b.flow.sources.items b.flow.ahead.items) true) (eqb-not k (length b.flow.seats.items) away))
+          ∙ ap (λ o. not (done_at o (slice_get b.flow.seats.items k)) && (list_all (λ arc. stands (face b.flow.queues arc)) (arcs_read b.flow.wires k) && true)) over
+          ∙ ap (λ v. not (done_at a.flow.over (slice_get v.items k)) && (list_all (λ arc. stands (face b.flow.queues arc)) (arcs_read b.flow.wires k) && true)) seats
+          ∙ ap (λ q. not (done_at a.flow.over (slice_get a.flow.seats.items k)) && (list_all (λ arc. stands (face q arc)) (arcs_read b.flow.wires k) && true)) queues
+          ∙ ap (λ w. not (done_at a.flow.over (slice_get a.flow.seats.items k)) && (list_all (λ arc. stands (face a.flow.queues arc)) (arcs_read w k) && true)) wires
+          ∙ ap (λ g. not (done_at a.flow.over (slice_get a.flow.seats.items k)) && (list_all (λ arc. stands (face a.flow.queues arc)) (arcs_read a.flow.wires k) && g))
+          (sym (ap (λ t. cond t (is_clear a.flow.sources.items a.flow.ahead.items) true) (eqb-not k (length a.flow.seats.items) (λ h. away (h ∙ sym ops-same)))))
+
+  listed-one : (x : ℕ) → x ≤ length b.flow.seats.items → contains_number (filter (is_new b.flow []) (0 ∷ [])) x ≡ is_ready b.flow (seat_number (length b.flow.seats.items) x)
+  listed-one x low = by (eqb x 0) refl
+    where
+      by : (t : Bool) → eqb x 0 ≡ t → contains_number (filter (is_new b.flow []) (0 ∷ [])) x ≡ is_ready b.flow (seat_number (length b.flow.seats.items) x)
+      by true t =
+          let here : x ≡ 0 = exact_unsigned_eq x 0 t in
+          subst (λ k. contains_number (filter (is_new b.flow []) (0 ∷ [])) k ≡ is_ready b.flow (seat_number (length b.flow.seats.items) k)) (sym here)
+          (contains_filter (is_new b.flow []) (0 ∷ []) 0 ∙ and-true (is_ready b.flow (seat_number (length b.flow.seats.items) 0)))
+      by false t =
+          let ne : x ≢ 0 = eqb-no x 0 t in
+          contains_filter (is_new b.flow []) (0 ∷ []) x ∙ ap (λ s. (s || false) && is_new b.flow [] x) (eqb-not 0 x (λ e. ne (sym e))) ∙ sym (never x ne low)
+
+  pub engine-fed : IsEngine m c
+  engine-fed =
+      record {
+        flow = subst (IsFlow m) (sym looked.flow) flow;
+        room = record { actors = actors-are; waits = looked.waits_len ∙ ap (λ v. length v.items) waits ∙ engine.room.waits ∙ ap (λ n. n + 1) (sym seats-are) };
+        exact = λ x low.
+            subst (λ f. ExactFor f c.ready.list x) (sym looked.flow) (subst (λ xs. ExactFor b.flow xs x) (sym now-listed)
+            (exact-of b.flow (filter (is_new b.flow []) (0 ∷ [])) x (listed-one x (subst (λ (f : Flow O). x ≤ length f.seats.items) looked.flow low))));
+        below = λ x is. low-of x (subst (λ xs. contains_number xs x ≡ true) now-listed is);
+        once = subst OnlyOnce (sym now-listed) (once-climbs (filter (is_new b.flow []) (0 ∷ [])) (climbs-filter (is_new b.flow []) (0 ∷ []) ((λ y is. absurd (cc is)), tt)));
+        waits = λ x low.
+            looked.waits x ∙ at x (eqb 0 x) refl (subst (λ (f : Flow O). x ≤ length f.seats.items) looked.flow low)
+            ∙ ap (λ (f : Flow O). waiting f (seat_number (length f.seats.items) x)) (sym looked.flow);
+        running = looked.failed ∙ failed ∙ engine.running;
+      }
+    where
+      seats-are : length c.flow.seats.items ≡ length a.flow.seats.items
+      seats-are = ap (λ (f : Flow O). length f.seats.items) looked.flow ∙ ops-same
+
+      actors-are : c.ready.actors ≡ length c.flow.seats.items + 1
+      actors-are = looked.actors ∙ ap (λ r. r.actors) list ∙ engine.room.actors ∙ ap (λ n. n + 1) (sym seats-are)
+
+      low-of : (x : ℕ) → contains_number (filter (is_new b.flow []) (0 ∷ [])) x ≡ true → x < c.ready.actors
+      low-of x is = by (eqb 0 x) refl (sym (contains_filter (is_new b.flow []) (0 ∷ []) x) ∙ is)
+        where
+          by : (t : Bool) → eqb 0 x ≡ t → ((t || false) && is_new b.flow [] x) ≡ true → x < c.ready.actors
+          by true t h = let here : 0 ≡ x = exact_unsigned_eq 0 x t in omega (arith, here, actors-are)
+          by false t h = absurd (cc h)
+
+      at : (x : ℕ) (t : Bool) → eqb 0 x ≡ t → x ≤ length b.flow.seats.items
+          → cond (t || false) (waiting b.flow (seat_number (length b.flow.seats.items) x)) (get_or b.waits.items x 0) ≡ waiting b.flow (seat_number (length b.flow.seats.items) x)
+      at x true t low = refl
+      at x false t low =
+          ap (λ v. get_or v.items x 0) waits ∙ engine.waits x (omega (arith, low, ops-same))
+          ∙ ap (λ n. waiting a.flow (seat_number n x)) (sym ops-same)
+          ∙ ap (λ q. min (2 ^ 64 - 1) (sum (map (λ arc. (face q arc).count) (arcs_read a.flow.wires (seat_number (length b.flow.seats.items) x))))) (sym queues)
+          ∙ ap (λ w. min (2 ^ 64 - 1) (sum (map (λ arc. (face b.flow.queues arc).count) (arcs_read w (seat_number (length b.flow.seats.items) x))))) (sym wires)
