@@ -1,6 +1,7 @@
 -- An engine after a step of one actor.
-use Rattle.std.proofs.Common.{◌≡◌, ◌≢◌, ℕ, zero, suc, ◌+◌, ◌-◌, ◌^◌, ◌<◌, ◌≤◌, eqb, ltb, leb, cond, Bool, true, false, not, ◌||◌, ◌&&◌, List, [], ◌∷◌, ◌++◌, length, map, get_or, refl, ap, sym, ◌∙◌, subst, arith}
-use Rattle.std.specs.Prelude.{min, sum, slice_get}
+use Rattle.std.proofs.Common.{◌≡◌, ◌≢◌, ℕ, zero, suc, ◌+◌, ◌<◌, ◌≤◌, eqb, ltb, leb, cond, Bool, true, false, not, ◌||◌, ◌&&◌, List, [], ◌∷◌, ◌++◌, length, get_or, Option, refl, ap, sym, ◌∙◌, subst, arith}
+use Rattle.std.specs.Prelude.{Vec, slice_get}
+use Rattle.std.specs.declared.alloc.Global.{Global}
 use Rattle.std.proofs.Math.Bool.{or-false, and-true, and-false}
 use Rattle.std.specs.List.{filter, list_all, range_with_len}
 use Rattle.sq_queue.specs.Faces.{face}
@@ -11,6 +12,7 @@ use Rattle.sq_sched.specs.ReadyLists.{without_actor, AreActors, OnlyOnce}
 use Rattle.sq_sched.proofs.ReadyLemmas.{once-without, without-gone, without-others, actors-without}
 use Rattle.sq_left.proofs.MergeLemmas.{eqb-no, eqb-not}
 use Rattle.sq_oper.specs.declared.operator.Operator.{Ghosts}
+use Rattle.sq_replay.specs.RecordedTuples.{Recorded}
 use Rattle.sq_flow.specs.declared.flow.Flow.{Flow}
 use Rattle.sq_flow.specs.declared.wires.Wires.{Wires}
 use Rattle.sq_flow.specs.declared.engine.Engine.{Engine}
@@ -318,82 +320,68 @@ module _ {O : Type 0} (m : Ghosts O) (a b : Engine O) (flow : IsFlow m a.flow) (
           omega (arith, low, same, are)
       within x false e h = absurd (cc h)
 
--- an engine that waited, after more is known of a source
-module _ {O : Type 0} (m : Ghosts O) (a b c : Engine O) (engine : IsEngine m a) (empty : a.ready.list ≡ []) (flow : IsFlow m b.flow)
-    (wires : b.flow.wires ≡ a.flow.wires) (seats : b.flow.seats ≡ a.flow.seats) (over : b.flow.over ≡ a.flow.over) (queues : b.flow.queues ≡ a.flow.queues)
-    (list : b.ready ≡ a.ready) (waits : b.waits ≡ a.waits) (failed : b.failed ≡ a.failed) (looked : Looked (0 ∷ []) b c) where
-  now-listed : c.ready.list ≡ filter (is_new b.flow []) (0 ∷ [])
-  now-listed = looked.list ∙ ap (λ xs. xs ++ filter (is_new b.flow xs) (0 ∷ [])) (ap (λ r. r.list) list ∙ empty)
+-- an engine of which no actor was ready, after more is known of a source
+module _ {O : Type 0} (m : Ghosts O) (a b : Engine O) (engine : IsEngine m a) (empty : a.ready.list ≡ []) (sources : Vec Recorded Global) (ahead : Vec (Option ℕ) Global)
+    (flow : IsFlow m (record a.flow { sources = sources; ahead = ahead }))
+    (looked : Looked (0 ∷ []) (record a { flow = record a.flow { sources = sources; ahead = ahead } }) b) where
+  abbrev ops : ℕ
+  ops = length a.flow.seats.items
 
-  ops-same : length b.flow.seats.items ≡ length a.flow.seats.items
-  ops-same = ap (λ v. length v.items) seats
+  abbrev more : Flow O
+  more = record a.flow { sources = sources; ahead = ahead }
+
+  abbrev fed-list : List ℕ
+  fed-list = filter (is_new more []) (0 ∷ [])
+
+  list-fed : b.ready.list ≡ fed-list
+  list-fed = looked.list ∙ ap (λ xs. xs ++ filter (is_new more xs) (0 ∷ [])) empty
 
   -- an operator is as ready as it was: it wasn't
-  never : (x : ℕ) → x ≢ 0 → x ≤ length b.flow.seats.items → is_ready b.flow (seat_number (length b.flow.seats.items) x) ≡ false
+  never : (x : ℕ) → x ≢ 0 → x ≤ ops → is_ready more (seat_number ops x) ≡ false
   never zero ne low = absurd (ne refl)
   never (suc k) ne low =
-      let here = place-next (length b.flow.seats.items) k in
-      let was = exact-test a.flow a.ready.list (suc k) (engine.exact (suc k) (omega (arith, low, ops-same))) in
-      let none : is_ready a.flow k ≡ false = ap (is_ready a.flow) (sym (place-next (length a.flow.seats.items) k)) ∙ sym was ∙ ap (λ xs. contains_number xs (suc k)) empty in
-      ap (is_ready b.flow) here ∙ same k (λ e. omega (arith, e, low)) ∙ none
+      ap (is_ready more) (place-next ops k)
+      ∙ ap (λ t. not (done_at a.flow.over (slice_get a.flow.seats.items k)) && (list_all (λ arc. stands (face a.flow.queues arc)) (arcs_read a.flow.wires k) && t))
+      (goes (is_clear sources.items ahead.items) ∙ sym (goes (is_clear a.flow.sources.items a.flow.ahead.items)))
+      ∙ ap (is_ready a.flow) (sym (place-next ops k)) ∙ sym (exact-test a.flow a.ready.list (suc k) (engine.exact (suc k) low)) ∙ ap (λ xs. contains_number xs (suc k)) empty
     where
-      same : (k : ℕ) → k ≢ length b.flow.seats.items → is_ready b.flow k ≡ is_ready a.flow k
-      same k away =
-          ap (λ g. not (done_at b.flow.over (slice_get b.flow.seats.items k)) && (list_all (λ arc. stands (face b.flow.queues arc)) (arcs_read b.flow.wires k) && g))
-          (ap (λ t. cond t (is_clear b.flow.sources.items b.flow.ahead.items) true) (eqb-not k (length b.flow.seats.items) away))
-          ∙ ap (λ o. not (done_at o (slice_get b.flow.seats.items k)) && (list_all (λ arc. stands (face b.flow.queues arc)) (arcs_read b.flow.wires k) && true)) over
-          ∙ ap (λ v. not (done_at a.flow.over (slice_get v.items k)) && (list_all (λ arc. stands (face b.flow.queues arc)) (arcs_read b.flow.wires k) && true)) seats
-          ∙ ap (λ q. not (done_at a.flow.over (slice_get a.flow.seats.items k)) && (list_all (λ arc. stands (face q arc)) (arcs_read b.flow.wires k) && true)) queues
-          ∙ ap (λ w. not (done_at a.flow.over (slice_get a.flow.seats.items k)) && (list_all (λ arc. stands (face a.flow.queues arc)) (arcs_read w k) && true)) wires
-          ∙ ap (λ g. not (done_at a.flow.over (slice_get a.flow.seats.items k)) && (list_all (λ arc. stands (face a.flow.queues arc)) (arcs_read a.flow.wires k) && g))
-          (sym (ap (λ t. cond t (is_clear a.flow.sources.items a.flow.ahead.items) true) (eqb-not k (length a.flow.seats.items) (λ h. away (h ∙ sym ops-same)))))
+      goes : (clear : Bool) → cond (eqb k ops) clear true ≡ true
+      goes clear = ap (λ t. cond t clear true) (eqb-not k ops (omega (arith, low)))
 
-  listed-one : (x : ℕ) → x ≤ length b.flow.seats.items → contains_number (filter (is_new b.flow []) (0 ∷ [])) x ≡ is_ready b.flow (seat_number (length b.flow.seats.items) x)
-  listed-one x low = by (eqb x 0) refl
+  listed-one : (x : ℕ) → x ≤ ops → contains_number fed-list x ≡ is_ready more (seat_number ops x)
+  listed-one x low = contains_filter (is_new more []) (0 ∷ []) x ∙ by (eqb x 0) refl
     where
-      by : (t : Bool) → eqb x 0 ≡ t → contains_number (filter (is_new b.flow []) (0 ∷ [])) x ≡ is_ready b.flow (seat_number (length b.flow.seats.items) x)
-      by true t =
-          let here : x ≡ 0 = exact_unsigned_eq x 0 t in
-          subst (λ k. contains_number (filter (is_new b.flow []) (0 ∷ [])) k ≡ is_ready b.flow (seat_number (length b.flow.seats.items) k)) (sym here)
-          (contains_filter (is_new b.flow []) (0 ∷ []) 0 ∙ and-true (is_ready b.flow (seat_number (length b.flow.seats.items) 0)))
+      by : (t : Bool) → eqb x 0 ≡ t → ((eqb 0 x || false) && is_new more [] x) ≡ is_ready more (seat_number ops x)
+      by true t = ap (λ s. (s || false) && is_new more [] x) (eqb_true 0 x (sym (exact_unsigned_eq x 0 t))) ∙ and-true (is_ready more (seat_number ops x))
       by false t =
           let ne : x ≢ 0 = eqb-no x 0 t in
-          contains_filter (is_new b.flow []) (0 ∷ []) x ∙ ap (λ s. (s || false) && is_new b.flow [] x) (eqb-not 0 x (λ e. ne (sym e))) ∙ sym (never x ne low)
+          ap (λ s. (s || false) && is_new more [] x) (eqb-not 0 x (λ e. ne (sym e))) ∙ sym (never x ne low)
 
-  pub engine-fed : IsEngine m c
+  pub engine-fed : IsEngine m b
   engine-fed =
       record {
         flow = subst (IsFlow m) (sym looked.flow) flow;
-        room = record { actors = actors-are; waits = looked.waits_len ∙ ap (λ v. length v.items) waits ∙ engine.room.waits ∙ ap (λ n. n + 1) (sym seats-are) };
+        room = record { actors = actors-are; waits = looked.waits_len ∙ engine.room.waits ∙ ap (λ n. n + 1) (sym seats-are) };
         exact = λ x low.
-            subst (λ f. ExactFor f c.ready.list x) (sym looked.flow) (subst (λ xs. ExactFor b.flow xs x) (sym now-listed)
-            (exact-of b.flow (filter (is_new b.flow []) (0 ∷ [])) x (listed-one x (subst (λ (f : Flow O). x ≤ length f.seats.items) looked.flow low))));
-        below = λ x is. low-of x (subst (λ xs. contains_number xs x ≡ true) now-listed is);
-        once = subst OnlyOnce (sym now-listed) (once-climbs (filter (is_new b.flow []) (0 ∷ [])) (climbs-filter (is_new b.flow []) (0 ∷ []) ((λ y is. absurd (cc is)), tt)));
+            subst (λ f. ExactFor f b.ready.list x) (sym looked.flow) (subst (λ xs. ExactFor more xs x) (sym list-fed)
+            (exact-of more fed-list x (listed-one x (rw (← seats-are) low))));
+        below = λ x is. within x (eqb 0 x) refl (sym (contains_filter (is_new more []) (0 ∷ []) x) ∙ subst (λ xs. contains_number xs x ≡ true) list-fed is);
+        once = subst OnlyOnce (sym list-fed) (once-climbs fed-list (climbs-filter (is_new more []) (0 ∷ []) ((λ y is. absurd (cc is)), tt)));
         waits = λ x low.
-            looked.waits x ∙ at x (eqb 0 x) refl (subst (λ (f : Flow O). x ≤ length f.seats.items) looked.flow low)
-            ∙ ap (λ (f : Flow O). waiting f (seat_number (length f.seats.items) x)) (sym looked.flow);
-        running = looked.failed ∙ failed ∙ engine.running;
+            looked.waits x ∙ at x (eqb 0 x) (rw (← seats-are) low) ∙ ap (λ (f : Flow O). waiting f (seat_number (length f.seats.items) x)) (sym looked.flow);
+        running = looked.failed ∙ engine.running;
       }
     where
-      seats-are : length c.flow.seats.items ≡ length a.flow.seats.items
-      seats-are = ap (λ (f : Flow O). length f.seats.items) looked.flow ∙ ops-same
+      seats-are : length b.flow.seats.items ≡ ops
+      seats-are = ap (λ (f : Flow O). length f.seats.items) looked.flow
 
-      actors-are : c.ready.actors ≡ length c.flow.seats.items + 1
-      actors-are = looked.actors ∙ ap (λ r. r.actors) list ∙ engine.room.actors ∙ ap (λ n. n + 1) (sym seats-are)
+      actors-are : b.ready.actors ≡ length b.flow.seats.items + 1
+      actors-are = looked.actors ∙ engine.room.actors ∙ ap (λ n. n + 1) (sym seats-are)
 
-      low-of : (x : ℕ) → contains_number (filter (is_new b.flow []) (0 ∷ [])) x ≡ true → x < c.ready.actors
-      low-of x is = by (eqb 0 x) refl (sym (contains_filter (is_new b.flow []) (0 ∷ []) x) ∙ is)
-        where
-          by : (t : Bool) → eqb 0 x ≡ t → ((t || false) && is_new b.flow [] x) ≡ true → x < c.ready.actors
-          by true t h = let here : 0 ≡ x = exact_unsigned_eq 0 x t in omega (arith, here, actors-are)
-          by false t h = absurd (cc h)
+      within : (x : ℕ) (t : Bool) → eqb 0 x ≡ t → ((t || false) && is_new more [] x) ≡ true → x < b.ready.actors
+      within x true t h = let here : 0 ≡ x = exact_unsigned_eq 0 x t in omega (arith, here, actors-are)
+      within x false t h = absurd (cc h)
 
-      at : (x : ℕ) (t : Bool) → eqb 0 x ≡ t → x ≤ length b.flow.seats.items
-          → cond (t || false) (waiting b.flow (seat_number (length b.flow.seats.items) x)) (get_or b.waits.items x 0) ≡ waiting b.flow (seat_number (length b.flow.seats.items) x)
-      at x true t low = refl
-      at x false t low =
-          ap (λ v. get_or v.items x 0) waits ∙ engine.waits x (omega (arith, low, ops-same))
-          ∙ ap (λ n. waiting a.flow (seat_number n x)) (sym ops-same)
-          ∙ ap (λ q. min (2 ^ 64 - 1) (sum (map (λ arc. (face q arc).count) (arcs_read a.flow.wires (seat_number (length b.flow.seats.items) x))))) (sym queues)
-          ∙ ap (λ w. min (2 ^ 64 - 1) (sum (map (λ arc. (face b.flow.queues arc).count) (arcs_read w (seat_number (length b.flow.seats.items) x))))) (sym wires)
+      at : (x : ℕ) (t : Bool) → x ≤ ops → cond (t || false) (waiting more (seat_number ops x)) (get_or a.waits.items x 0) ≡ waiting more (seat_number ops x)
+      at x true low = refl
+      at x false low = engine.waits x low

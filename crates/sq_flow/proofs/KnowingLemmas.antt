@@ -1,23 +1,20 @@
--- A flow of which more is known: what was said of it with what may come holds again.
-use Rattle.std.proofs.Common.{◌≡◌, ◌≢◌, ℕ, zero, suc, ◌<◌, ◌≤◌, eqb, cond, Bool, true, false, List, [], ◌∷◌, ◌++◌, length, set, Option, Some, None, refl, ap, sym, ◌∙◌, subst, append-nil, append_assoc, ◌^◌, arith}
-use Rattle.std.specs.Prelude.{slice_get, Vec}
-use Rattle.std.specs.Vec.{with_item}
-use Rattle.std.specs.declared.alloc.Global.{Global}
+-- A flow of which more is known is the one that it was with that to come, and whatever comes behind it.
+use Rattle.std.proofs.Common.{◌≡◌, ℕ, zero, suc, ◌<◌, ◌≤◌, cond, false, List, [], ◌∷◌, ◌++◌, length, set, Option, None, refl, ap, sym, ◌∙◌, subst, append-nil, ◌^◌}
+use Rattle.std.proofs.Math.Dec.{eqb-suc-suc, eqb-suc-zero, eqb-zero-suc}
 use Rattle.std.proofs.Math.Nat.{ℕ_set}
 use Rattle.std.proofs.Math.Bridge.{le_prop}
-use Rattle.std.proofs.lemmas.Option.{same_Some}
-use Rattle.std.proofs.lemmas.Map.Views.{exact_unsigned_eq}
+use Rattle.std.specs.Prelude.{Vec, slice_get}
+use Rattle.std.specs.Vec.{with_item}
+use Rattle.std.specs.declared.alloc.Global.{Global}
 use mathlib.Core.HLevel.{is_prop→PathP}
 use Rattle.sq_value.specs.declared.Tuple.{Tuple}
 use Rattle.sq_oper.specs.declared.operator.Operator.{Ghosts}
 use Rattle.sq_replay.specs.RecordedTuples.{Recorded}
-use Rattle.sq_left.proofs.MergeLemmas.{eqb-no, eqb-not}
-use Rattle.sq_words.proofs.Numbers.{eqb_true}
 use Rattle.sq_flow.specs.declared.flow.Flow.{Flow}
-use Rattle.sq_flow.specs.Flows.{IsFlow, IsReplaying}
-use Rattle.sq_flow.specs.Tails.{Tails, joined, joined_in, closed, closed-length, closed_in, with_tails, no_tails, added}
+use Rattle.sq_flow.specs.Flows.{IsFlow, IsReplaying, tuples_to_come, to_release}
+use Rattle.sq_flow.specs.Tails.{Tails, Fits, joined, joined_in, closed, closed-length, closed_in, with_tails, no_tails, added}
 
-closed-set : (ahead : List (Option ℕ)) (source : ℕ) (from : Option ℕ) → closed (set ahead source from) ≡ closed ahead
+closed-set : (ahead : List (Option ℕ)) (source : ℕ) (from : Option ℕ) → closed ahead ≡ closed (set ahead source from)
 closed-set [] source from = refl
 closed-set (x ∷ ahead) zero from = refl
 closed-set (x ∷ ahead) (suc source) from = ap (λ l. None ∷ l) (closed-set ahead source from)
@@ -41,48 +38,27 @@ joined-agree tails tails' (s ∷ sources) same =
     ap (λ l. record { items = s.items ++ l } ∷ joined (λ k. tails (suc k)) sources) (same 0)
     ∙ ap (λ l. record { items = s.items ++ tails' 0 } ∷ l) (joined-agree (λ k. tails (suc k)) (λ k. tails' (suc k)) sources (λ k. same (suc k)))
 
--- what is added to what is known of a source stands in front of its tail
-joined-added : (tails : Tails) (sources : List Recorded) (source : ℕ) (more : List Tuple) (v w : Recorded) → slice_get sources source ≡ Some v → w.items ≡ v.items ++ more
-    → joined (added source more tails) sources ≡ joined tails (set sources source w)
-joined-added tails [] source more v w at is = refl
-joined-added tails (s ∷ sources) zero more v w at is =
-    ap (λ l. record { items = l } ∷ joined (λ k. added zero more tails (suc k)) sources)
-    (ap (λ (d : Recorded). d.items ++ (more ++ tails 0)) (same_Some s v at) ∙ sym (append_assoc v.items more (tails 0)) ∙ ap (λ l. l ++ tails 0) (sym is))
-    ∙ ap (λ l. record { items = w.items ++ tails 0 } ∷ l) (joined-agree (λ k. added zero more tails (suc k)) (λ k. tails (suc k)) sources (λ k. ap (λ b. cond b more [] ++ tails (suc k)) (eqb-not (suc k) 0 (λ e. cc e))))
-joined-added tails (s ∷ sources) (suc source) more v w at is =
-    ap (λ l. record { items = l } ∷ joined (λ k. added (suc source) more tails (suc k)) sources) (ap (λ b. s.items ++ (cond b more [] ++ tails 0)) (eqb-not 0 (suc source) (λ e. cc e)))
+-- what comes first of a source of which nothing is known is as good as known
+joined-added : (tails : Tails) (sources : List Recorded) (source : ℕ) (w : Recorded) → tuples_to_come (slice_get sources source) ≡ []
+    → joined (added source w.items tails) sources ≡ joined tails (set sources source w)
+joined-added tails [] source w bare = refl
+joined-added tails (s ∷ sources) zero w bare =
+    ap (λ known. record { items = known ++ (w.items ++ tails 0) } ∷ joined (λ k. added zero w.items tails (suc k)) sources) bare
+    ∙ ap (λ l. record { items = w.items ++ tails 0 } ∷ l)
+    (joined-agree (λ k. added zero w.items tails (suc k)) (λ k. tails (suc k)) sources (λ k. ap (λ b. cond b w.items [] ++ tails (suc k)) (eqb-suc-zero k)))
+joined-added tails (s ∷ sources) (suc source) w bare =
+    ap (λ b. record { items = s.items ++ (cond b w.items [] ++ tails 0) } ∷ joined (λ k. added (suc source) w.items tails (suc k)) sources) (eqb-zero-suc source)
     ∙ ap (λ l. record { items = s.items ++ tails 0 } ∷ l)
-    (joined-agree (λ k. added (suc source) more tails (suc k)) (added source more (λ k. tails (suc k))) sources (λ k. ap (λ b. cond b more [] ++ tails (suc k)) (next-same k))
-    ∙ joined-added (λ k. tails (suc k)) sources source more v w at is)
-  where
-    next-same : (k : ℕ) → eqb (suc k) (suc source) ≡ eqb k source
-    next-same k = by (eqb k source) refl
-      where
-        by : (b : Bool) → eqb k source ≡ b → eqb (suc k) (suc source) ≡ b
-        by true h = let e : k ≡ source = exact_unsigned_eq k source h in eqb_true (suc k) (suc source) (ap suc e)
-        by false h = let ne : k ≢ source = eqb-no k source h in eqb-not (suc k) (suc source) (omega (arith, ne))
+    (joined-agree (λ k. added (suc source) w.items tails (suc k)) (added source w.items (λ k. tails (suc k))) sources
+    (λ k. ap (λ b. cond b w.items [] ++ tails (suc k)) (eqb-suc-suc k source))
+    ∙ joined-added (λ k. tails (suc k)) sources source w bare)
 
-pub joined-none : (sources : List Recorded) → joined no_tails sources ≡ sources
+joined-none : (sources : List Recorded) → joined no_tails sources ≡ sources
 joined-none [] = refl
 joined-none (s ∷ sources) = ap (λ l. record { items = l } ∷ joined no_tails sources) (append-nil s.items) ∙ ap (λ l. s ∷ l) (joined-none sources)
 
--- a source's known tuples, and more behind them
-module _ {O : Type 0} (f : Flow O) (source : ℕ) (more : List Tuple) (v w : Recorded) (from : Option ℕ)
-    (at : slice_get f.sources.items source ≡ Some v) (is : w.items ≡ v.items ++ more) where
-  -- the flow to which they were added
-  abbrev pub with_more : Flow O
-  with_more = record f { sources = with_item f.sources source w; ahead = with_item f.ahead source from }
-
-  -- it goes on as the flow before where they come first
-  pub fed-tails : (tails : Tails) → with_tails (added source more tails) f ≡ with_tails tails with_more
-  fed-tails tails =
-      ap (λ s. record f { sources = s; ahead = closed_in f.ahead })
-      (vec-same (joined_in (added source more tails) f.sources) (joined_in tails (with_item f.sources source w)) refl refl refl refl (joined-added tails f.sources.items source more v w at is))
-      ∙ ap (λ a. record f { sources = joined_in tails (with_item f.sources source w); ahead = a })
-      (vec-same (closed_in f.ahead) (closed_in (with_item f.ahead source from)) refl refl refl refl (sym (closed-set f.ahead.items source from)))
-
 -- a flow keeps its invariants by what is known where it keeps them with no tails, and isn't over
-pub known-keeps : {O : Type 0} (m : Ghosts O) (f : Flow O) → IsFlow m (with_tails no_tails f) → f.over ≡ false → IsFlow m f
+known-keeps : {O : Type 0} (m : Ghosts O) (f : Flow O) → IsFlow m (with_tails no_tails f) → f.over ≡ false → IsFlow m f
 known-keeps m f keeps open_now =
     record {
       shaped = keeps.shaped;
@@ -105,3 +81,18 @@ known-keeps m f keeps open_now =
       levels = keeps.levels;
       owned = keeps.owned;
     }
+
+-- these tuples become known of a source of which nothing is, and from which tick on more may come
+module _ {O : Type 0} (f : Flow O) (source : ℕ) (w : Recorded) (from : Option ℕ) (bare : to_release f source ≡ []) where
+  abbrev with_more : Flow O
+  with_more = record f { sources = with_item f.sources source w; ahead = with_item f.ahead source from }
+
+  -- the flow goes on as the one before, where they came first
+  pub fed-tails : (tails : Tails) → with_tails (added source w.items tails) f ≡ with_tails tails with_more
+  fed-tails tails = λ i. record f {
+        sources = vec-same (joined_in (added source w.items tails) f.sources) (joined_in tails (with_item f.sources source w)) refl refl refl refl (joined-added tails f.sources.items source w bare) i;
+        ahead = vec-same (closed_in f.ahead) (closed_in (with_item f.ahead source from)) refl refl refl refl (closed-set f.ahead.items source from) i;
+      }
+
+  pub fed-keeps : (m : Ghosts O) → Fits m (added source w.items no_tails) f → f.over ≡ false → IsFlow m with_more
+  fed-keeps m may open_now = known-keeps m with_more (subst (IsFlow m) (fed-tails no_tails) may.keeps) open_now
