@@ -13,8 +13,7 @@ returns-then-comes_before c =
     let i = c.loop-other.other in
     let sources = c.args.sources.now.items in
     let low : i < length sources = omega (arith, c.loop-other-test.true, c.len-other-end.ensures, c.args.sources.now.ok.0) in
-    let at = ap tuples_to_come (slice_get_read sources _ i c.index.result.now refl low c.index.ensures) in
-    let begins = ap first_recorded at ∙ sym c.time.ensures ∙ c.in-Some.is in
+    let begins = ap (λ o. first_recorded (tuples_to_come o)) (slice_get_read sources _ i c.index.result.now refl low c.index.ensures) ∙ sym c.time.ensures ∙ c.in-Some.is in
     sym (some-from (λ other. begins_before (first_recorded (tuples_to_come (slice_get sources other))) other c.args.from c.args.source) (length sources) i
     (ap (λ o. begins_before o i c.args.from c.args.source) begins ∙ sym c.comes_before.ensures ∙ c.if-comes_before.true) low)
 
@@ -23,13 +22,9 @@ loop-other-preserved c =
     let i = c.loop-other.other in
     let sources = c.args.sources.now.items in
     let low : i < length sources = omega (arith, c.loop-other-test.true, c.len-other-end.ensures, c.args.sources.now.ok.0) in
-    let at = ap tuples_to_come (slice_get_read sources _ i c.index.result.now refl low c.index.ensures) in
-    let begins = ap first_recorded at ∙ sym c.time.ensures in
-    elim c.match-time.branch [
-      | in-Some+else-comes_before w ↦
-          some-next (λ other. begins_before (first_recorded (tuples_to_come (slice_get sources other))) other c.args.from c.args.source) i c.loop-other.invariant
-          (ap (λ o. begins_before o i c.args.from c.args.source) (begins ∙ w.in-Some.is) ∙ sym w.comes_before.ensures ∙ w.if-comes_before.false)
-      | in_default w ↦
-          some-next (λ other. begins_before (first_recorded (tuples_to_come (slice_get sources other))) other c.args.from c.args.source) i c.loop-other.invariant
-          (ap (λ o. begins_before o i c.args.from c.args.source) (begins ∙ w.in_default.is))
-    ]
+    let begins = ap (λ o. first_recorded (tuples_to_come o)) (slice_get_read sources _ i c.index.result.now refl low c.index.ensures) ∙ sym c.time.ensures in
+    some-next (λ other. begins_before (first_recorded (tuples_to_come (slice_get sources other))) other c.args.from c.args.source) i c.loop-other.invariant
+    (elim c.match-time.branch [
+      | in-Some+else-comes_before w ↦ ap (λ o. begins_before o i c.args.from c.args.source) (begins ∙ w.in-Some.is) ∙ sym w.comes_before.ensures ∙ w.if-comes_before.false
+      | in_default w ↦ ap (λ o. begins_before o i c.args.from c.args.source) (begins ∙ w.in_default.is)
+    ])

@@ -1,4 +1,4 @@
-use Rattle.std.proofs.Common.{refl, ap, sym, ◌∙◌}
+use Rattle.std.proofs.Common.{ap, sym, ◌∙◌}
 use Rattle.sq_flow.specs.Tails.{with_tails}
 use Rattle.sq_flow.proofs.KnowingLemmas.{fed-tails, fed-keeps}
 use Rattle.sq_flow.proofs.EngineLemmas.{engine-fed}

@@ -2,7 +2,6 @@ use Rattle.std.proofs.Common.{◌≡◌, false, length, replicate, refl, ap, sym
 use Rattle.std.proofs.lemmas.List.{length-replicate}
 use Rattle.sq_queue.specs.Faces.{size}
 use Rattle.sq_flow.specs.declared.flow.Flow.{Flow}
-use Rattle.sq_flow.specs.Starts.{BeginsFlow}
 use Rattle.sq_flow.specs.Tails.{joined-length, closed-length, with_tails}
 use Rattle.sq_flow.proofs.StartFlow.{start-flow, start-planned, start-plans, few-first}
 use Rattle.sq_flow.proofs.flow.Flow.new.Goals as goal
