@@ -1,4 +1,4 @@
--- Where all are finished nothing is left; where some actor isn't, one is ready.
+-- Where all are finished nothing is left; where some actor isn't, one is ready, or the replay waits for a source.
 use Rattle.std.proofs.Common.{◌≡◌, ◌≢◌, ℕ, zero, suc, ◌+◌, ◌<◌, ◌≤◌, eqb, cond, Bool, true, false, ◌||◌, ◌⊎◌, inl, inr, IsTrue, List, [], ◌∷◌, ◌++◌, length, Some, None, refl, ap, sym, ◌∙◌, subst, arith}
 use Rattle.std.proofs.lemmas.Bool.{or_right}
 use Rattle.std.specs.Prelude.{slice_get, is_some}
@@ -143,6 +143,7 @@ module _ {O : Type 0} (m : Ghosts O) (e : Flow O) (flow : IsFlow m e) where
     all-work : work_at_last m table items e ≡ taken_in_all m e
     all-work = sums-agree (fed_at_last m table items e) (λ actor. taken_at m (slice_get e.seats.items actor)) (length e.seats.items) all-fed
 
+  -- whatever stands on the pages
   pub nothing-comes : AllDone e → NothingComes m e
   nothing-comes all =
       record {

@@ -21,14 +21,14 @@ closed-set (x ∷ ahead) (suc source) from = ap (λ l. None ∷ l) (closed-set a
 -- two vectors in one place with the same elements are one
 vec-same : {X : Type 0} (v w : Vec X Global) → v.ptr ≡ w.ptr → v.len ≡ w.len → v.cap ≡ w.cap → v.alloc ≡ w.alloc → v.items ≡ w.items → v ≡ w
 vec-same v w p n c a q = λ i. record {
-      ptr = p i;
-      len = n i;
-      cap = c i;
-      alloc = a i;
-      items = q i;
-      ok = is_prop→PathP (λ j. (n j ≡ length (q j)) × (n j ≤ c j)) (λ j x y k. (ℕ_set _ _ x.0 y.0 k, le_prop x.1 y.1 k)) v.ok w.ok i;
-      small = is_prop→PathP (λ j. c j < 2 ^ 63) (λ j x y k. le_prop x y k) v.small w.small i;
-    }
+  ptr = p i;
+  len = n i;
+  cap = c i;
+  alloc = a i;
+  items = q i;
+  ok = is_prop→PathP (λ j. (n j ≡ length (q j)) × (n j ≤ c j)) (λ j x y k. (ℕ_set _ _ x.0 y.0 k, le_prop x.1 y.1 k)) v.ok w.ok i;
+  small = is_prop→PathP (λ j. c j < 2 ^ 63) (λ j x y k. le_prop x y k) v.small w.small i;
+}
 
 -- tails that agree are as good as each other
 joined-agree : (tails tails' : Tails) (sources : List Recorded) → ((source : ℕ) → tails source ≡ tails' source) → joined tails sources ≡ joined tails' sources
@@ -89,9 +89,9 @@ module _ {O : Type 0} (f : Flow O) (source : ℕ) (w : Recorded) (from : Option 
   -- the flow goes on as the one before, where they came first
   pub fed-tails : (tails : Tails) → with_tails (added source w.items tails) f ≡ with_tails tails with_more
   fed-tails tails = λ i. record f {
-        sources = vec-same (joined_in (added source w.items tails) f.sources) (joined_in tails (with_item f.sources source w)) refl refl refl refl (joined-added tails f.sources.items source w bare) i;
-        ahead = vec-same (closed_in f.ahead) (closed_in (with_item f.ahead source from)) refl refl refl refl (closed-set f.ahead.items source from) i;
-      }
+    sources = vec-same (joined_in (added source w.items tails) f.sources) (joined_in tails (with_item f.sources source w)) refl refl refl refl (joined-added tails f.sources.items source w bare) i;
+    ahead = vec-same (closed_in f.ahead) (closed_in (with_item f.ahead source from)) refl refl refl refl (closed-set f.ahead.items source from) i;
+  }
 
   pub fed-keeps : (m : Ghosts O) → Fits m (added source w.items no_tails) f → f.over ≡ false → IsFlow m with_more
   fed-keeps m may open_now = known-keeps m with_more (subst (IsFlow m) (fed-tails no_tails) may.keeps) open_now
