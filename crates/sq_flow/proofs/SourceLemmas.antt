@@ -1,5 +1,5 @@
--- The source that releases next, as far as the sources were looked at; tests of all numbers below one, and of some.
-use Rattle.std.proofs.Common.{◌≡◌, ◌≢◌, ℕ, zero, suc, ◌+◌, ◌<◌, ◌≤◌, eqb, Bool, true, false, ◌||◌, ltb, List, [], ◌∷◌, Option, Some, None, length, refl, ap, sym, ◌∙◌, arith}
+-- The source that releases next, as far as the sources were looked at.
+use Rattle.std.proofs.Common.{◌≡◌, ℕ, ◌+◌, ◌<◌, ◌≤◌, Bool, true, false, ltb, List, [], ◌∷◌, Option, Some, None, length, refl, arith}
 use Rattle.std.specs.Prelude.{slice_get, is_some, IfSome}
 use Rattle.std.proofs.lemmas.Option.{slice_get_past, same_Some}
 use Rattle.std.proofs.lemmas.Bool.Decides.{nat_tests}
@@ -7,10 +7,7 @@ use borrow.Author.Count.{below_more}
 use Rattle.sq_value.specs.declared.Tuple.{Tuple}
 use Rattle.sq_replay.specs.RecordedTuples.{Recorded, first_recorded}
 use Rattle.sq_flow.specs.Flows.{tuples_to_come}
-use Rattle.sq_flow.specs.Sources.{BeginsNotBefore, BeginsAfter, BeginsLeast, IsNextSource, all_below, some_below}
-use Rattle.sq_left.proofs.MergeLemmas.{eqb-no}
-use Rattle.sq_words.proofs.Bools.{and_true}
-use Rattle.std.proofs.lemmas.Map.Views.{exact_unsigned_eq}
+use Rattle.sq_flow.specs.Sources.{BeginsNotBefore, BeginsAfter, BeginsLeast, IsNextSource}
 
 -- of the first sources none begins, or this one does at this time, those before it later and none earlier
 abbrev pub IsBest : List Recorded → ℕ → ℕ → Option ℕ → Type 0
@@ -105,21 +102,3 @@ best-some sources n least (Some best) le ge h =
 pub none-of : (xs : List Tuple) → first_recorded xs ≡ None → xs ≡ []
 none-of [] at = refl
 none-of (x ∷ xs) at = cc at
-
--- what is so of all numbers below one is so of each
-pub below-at : (p : ℕ → Bool) (n k : ℕ) → all_below p n ≡ true → k < n → p k ≡ true
-below-at p zero k all low = absurd (omega (arith, low))
-below-at p (suc n) k all low = by (below-at p n k (and_true (all_below p n) (p n) all).0) (eqb k n) refl
-  where
-    by : (k < n → p k ≡ true) → (b : Bool) → eqb k n ≡ b → p k ≡ true
-    by less true h = let same : k ≡ n = exact_unsigned_eq k n h in rw same (and_true (all_below p n) (p n) all).1
-    by less false h = let ne : k ≢ n = eqb-no k n h in less (omega (arith, low, ne))
-
--- what is so of some number below one has one of which it is so
-pub some-at : (p : ℕ → Bool) (n : ℕ) → some_below p n ≡ true → (k : ℕ) × ((k < n) × (p k ≡ true))
-some-at p zero h = cc h
-some-at p (suc n) h = by (some-at p n) (some_below p n) refl
-  where
-    by : (some_below p n ≡ true → (k : ℕ) × ((k < n) × (p k ≡ true))) → (b : Bool) → some_below p n ≡ b → (k : ℕ) × ((k < suc n) × (p k ≡ true))
-    by less true here = let r = less here in let low = r.1.0 in (r.0, (omega (arith, low), r.1.1))
-    by less false none = (n, (omega arith, sym (ap (λ b. b || p n) none) ∙ h))

@@ -11,7 +11,7 @@ use Rattle.sq_words.proofs.Bools.{and_true}
 use Rattle.sq_flow.specs.Flows.{RiseFrom, tuples_to_come, may_come}
 use Rattle.sq_flow.specs.Sources.{BeginsNotBefore, BeginsAfter, BeginsLeast, IsNextSource, begins_before, holds_none, is_clear_of, is_clear}
 use Rattle.sq_flow.specs.Tails.{Tails, IsTail, AreTails, joined, joined-length, closed}
-use Rattle.sq_flow.proofs.SourceLemmas.{below-at, some-at}
+use Rattle.sq_flow.proofs.ClearLemmas.{below-at, some-at}
 
 -- ---- a source with its tail
 
