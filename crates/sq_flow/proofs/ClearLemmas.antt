@@ -36,6 +36,10 @@ some-from p (suc n) k here low =
     below_more (λ j. p j ≡ true → some_below p (suc n) ≡ true) n (λ j less at. ap (λ b. b || p n) (some-from p n j at less)) (or_right (some_below p n) (p n))
     k (omega (arith, low)) here
 
+-- of some number below one, or of it
+pub some-more : (p : ℕ → Bool) (n : ℕ) (was now : Bool) → was ≡ some_below p n → now ≡ (was || p n) → now ≡ some_below p (n + 1)
+some-more p n was now before here = here ∙ ap (λ b. b || p n) before ∙ sym (ap (some_below p) (add-one n))
+
 -- of no number below one, nor of it
 pub some-next : (p : ℕ → Bool) (n : ℕ) → some_below p n ≡ false → p n ≡ false → some_below p (n + 1) ≡ false
 some-next p n none here = ap (some_below p) (add-one n) ∙ ap (λ b. b || p n) none ∙ here

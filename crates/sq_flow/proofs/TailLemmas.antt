@@ -9,7 +9,7 @@ use Rattle.sq_replay.specs.RecordedTuples.{Recorded, first_recorded}
 use Rattle.sq_left.specs.Heads.{key_before}
 use Rattle.sq_words.proofs.Bools.{and_true}
 use Rattle.sq_flow.specs.Flows.{RiseFrom, tuples_to_come, may_come}
-use Rattle.sq_flow.specs.Sources.{BeginsNotBefore, BeginsAfter, BeginsLeast, IsNextSource, begins_before, holds_none, is_clear_of, is_clear}
+use Rattle.sq_flow.specs.Sources.{BeginsNotBefore, BeginsAfter, BeginsLeast, IsNextSource, all_below, some_below, begins_before, holds_none, is_clear_of, is_clear, is_bare, is_wanted}
 use Rattle.sq_flow.specs.Tails.{Tails, IsTail, AreTails, joined, joined-length, closed}
 use Rattle.sq_flow.proofs.ClearLemmas.{below-at, some-at}
 
@@ -94,6 +94,21 @@ bare-clear sources ahead k P clear low none nothing behind =
         let some = some-at (λ other. begins_before (first_recorded (tuples_to_come (slice_get sources other))) other from k) (length sources) h in
         let begins = begins-at (first_recorded (tuples_to_come (slice_get sources some.0))) some.0 from k some.1.1 in
         behind from begins.0 some.0 begins.1.0 (before-parts begins.0 some.0 from k begins.1.1)
+
+-- as long as no source is wanted none holds back another
+pub clear-unwanted : (sources : List Recorded) (ahead : List (Option ℕ)) → some_below (is_wanted sources ahead) (length sources) ≡ false → is_clear sources ahead ≡ true
+clear-unwanted sources ahead = by (length sources)
+  where
+    one : (k : ℕ) (o from : Option ℕ) (b c : Bool) → (b ≡ false → c ≡ true) → (b || is_bare o from) ≡ false → (c && holds_none sources k o from) ≡ true
+    one k (Some time) from false c before h = ap (λ x. x && true) (before refl)
+    one k None None false c before h = ap (λ x. x && true) (before refl)
+    one k None (Some from) false c before h = cc h
+    one k o from true c before h = cc h
+
+    by : (n : ℕ) → some_below (is_wanted sources ahead) n ≡ false → all_below (is_clear_of sources ahead) n ≡ true
+    by zero h = refl
+    by (suc n) h =
+        one n (first_recorded (tuples_to_come (slice_get sources n))) (may_come (slice_get ahead n)) (some_below (is_wanted sources ahead) n) (all_below (is_clear_of sources ahead) n) (by n) h
 
 module _ (tails : Tails) (sources : List Recorded) (ahead : List (Option ℕ)) (clear : is_clear sources ahead ≡ true) (may : AreTails ahead tails) where
   -- how a source begins by what is known it begins whatever comes, where what comes of one of which nothing is known begins so
