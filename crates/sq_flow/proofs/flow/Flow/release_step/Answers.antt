@@ -106,7 +106,7 @@ returns-in_err-close_before-clause-err g c =
       on = λ tails fits.
           short-silent _ _ _ _ fits.keeps refl closes.lines closes.drops
           (plans-none _ (with_tails tails c.args.self.now) fits.keeps pos c.args.source (record { items = c.index_mut.result.now.items ++ tails c.args.source }) (record { items = c.first_of.new.stream.items ++ tails c.args.source }) c.in_ok-tuple.tuple
-              (next-whatever tails sources c.args.self.now.ahead.items c.requires.clear fits.may c.args.source c.requires.next) (joined-at tails sources c.args.source c.index_mut.result.now at) (ap (λ l. l ++ tails c.args.source) c.in_ok-tuple.ensures.ok)
+          (next-whatever tails sources c.args.self.now.ahead.items c.requires.clear fits.may c.args.source c.requires.next) (joined-at tails sources c.args.source c.index_mut.result.now at) (ap (λ l. l ++ tails c.args.source) c.in_ok-tuple.ensures.ok)
           c.close_before.new.levels c.args.events.now.items c.close_before.new.events.items agrees c.in_err-close_before.ensures.err) (λ told. tt) (λ same. cc same);
       cause = tt;
       feed = fails-here _ _ _ _ _ _ _ c.requires.may.holds.flow c.requires.may.holds.together (IsLater-refl _) tt;
@@ -140,7 +140,7 @@ returns-in-Err-clause-err g c =
       on = λ tails fits.
           short-silent _ _ _ _ fits.keeps refl closes.lines closes.drops
           (plans-front _ (with_tails tails c.args.self.now) fits.keeps pos c.args.source (record { items = c.index_mut.result.now.items ++ tails c.args.source }) (record { items = c.first_of.new.stream.items ++ tails c.args.source }) c.in_ok-tuple.tuple
-              (next-whatever tails sources c.args.self.now.ahead.items c.requires.clear fits.may c.args.source c.requires.next) (joined-at tails sources c.args.source c.index_mut.result.now at) (ap (λ l. l ++ tails c.args.source) c.in_ok-tuple.ensures.ok) _ _ _ _ _ did
+          (next-whatever tails sources c.args.self.now.ahead.items c.requires.clear fits.may c.args.source c.requires.next) (joined-at tails sources c.args.source c.index_mut.result.now at) (ap (λ l. l ++ tails c.args.source) c.in_ok-tuple.ensures.ok) _ _ _ _ _ did
           c.send_one.new.queues (joined_in tails (with_item c.args.self.now.sources c.args.source c.first_of.new.stream)) (with_item c.close_before.new.counts c.args.source (c.index_mut-2.result.now + 1))
           (joined-set tails sources c.args.source c.first_of.new.stream) counted)
           fails.honest (counts-none _ _ _ _ _ _ fails.cause);
