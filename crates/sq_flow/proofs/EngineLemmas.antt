@@ -1,21 +1,27 @@
 -- An engine after a step of one actor.
-use Rattle.std.proofs.Common.{◌≡◌, ◌≢◌, ℕ, ◌+◌, ◌<◌, ◌≤◌, eqb, ltb, leb, cond, Bool, true, false, not, ◌||◌, ◌&&◌, List, [], ◌∷◌, ◌++◌, length, get_or, refl, ap, sym, ◌∙◌, subst, arith}
+use Rattle.std.proofs.Common.{◌≡◌, ◌≢◌, ℕ, zero, suc, ◌+◌, ◌<◌, ◌≤◌, eqb, ltb, leb, cond, Bool, true, false, not, ◌||◌, ◌&&◌, List, [], ◌∷◌, ◌++◌, length, get_or, Option, refl, ap, sym, ◌∙◌, subst, arith}
+use Rattle.std.specs.Prelude.{Vec, slice_get}
+use Rattle.std.specs.declared.alloc.Global.{Global}
 use Rattle.std.proofs.Math.Bool.{or-false, and-true, and-false}
-use Rattle.std.specs.List.{filter, range_with_len}
+use Rattle.std.specs.List.{filter, list_all, range_with_len}
+use Rattle.sq_queue.specs.Faces.{face}
+use Rattle.sq_flow.specs.Seats.{done_at}
+use Rattle.sq_flow.specs.Sources.{is_clear}
 use Rattle.std.proofs.lemmas.Bool.Decides.{nat_tests}
 use Rattle.sq_sched.specs.ReadyLists.{without_actor, AreActors, OnlyOnce}
 use Rattle.sq_sched.proofs.ReadyLemmas.{once-without, without-gone, without-others, actors-without}
 use Rattle.sq_left.proofs.MergeLemmas.{eqb-no, eqb-not}
 use Rattle.sq_oper.specs.declared.operator.Operator.{Ghosts}
+use Rattle.sq_replay.specs.RecordedTuples.{Recorded}
 use Rattle.sq_flow.specs.declared.flow.Flow.{Flow}
 use Rattle.sq_flow.specs.declared.wires.Wires.{Wires}
 use Rattle.sq_flow.specs.declared.engine.Engine.{Engine}
-use Rattle.sq_flow.specs.Wiring.{followers_of, Climbs, IsShaped}
+use Rattle.sq_flow.specs.Wiring.{arcs_read, followers_of, Climbs, IsShaped}
 use Rattle.sq_flow.specs.Flows.{IsFlow}
-use Rattle.sq_flow.specs.Readiness.{is_ready, waiting, TouchesOnly}
+use Rattle.sq_flow.specs.Readiness.{stands, is_ready, waiting, TouchesOnly}
 use Rattle.sq_flow.specs.Engines.{seat_number, ExactFor, is_new, newly_ready, listed_after, readers_of, Looked, HasSeats, IsEngine}
 use Rattle.sq_flow.proofs.ListLemmas.{contains-range, climbs-filter, climbs-range, climbs-next, climbs-same, once-climbs}
-use Rattle.sq_flow.proofs.ReadyLemmas.{exact-of, exact-test, place-within, place-apart, readers-at, readers-within, ready-same, waiting-same, ready-grows, looked-at, looked-once, looked-below}
+use Rattle.sq_flow.proofs.ReadyLemmas.{exact-of, exact-test, place-next, place-within, place-apart, readers-at, readers-within, ready-same, waiting-same, ready-grows, looked-at, looked-once, looked-below}
 use Rattle.sq_words.specs.Lists.{contains_number}
 use Rattle.std.proofs.lemmas.Map.Views.{exact_unsigned_eq}
 use Rattle.sq_words.proofs.Lists.{contains_filter}
@@ -62,18 +68,18 @@ module _ {O : Type 0} (e e' : Flow O) (shaped : IsShaped e.wires (length e.seats
     grows : contains_number before x ≡ true → ready x ≡ true
     grows h =
         ap (is_ready e') (same-place x)
-        ∙ ready-grows e e' shaped wires (seat_number (length e.seats.items) actor) touches (seat_number (length e.seats.items) x) others-low others-apart (sym (exact-test e before x (exact x in')) ∙ h)
+        ∙ ready-grows e e' shaped wires seats (seat_number (length e.seats.items) actor) touches (seat_number (length e.seats.items) x) others-low others-apart (sym (exact-test e before x (exact x in')) ∙ h)
 
     stays : contains_number readers x ≡ false → ready x ≡ contains_number before x
     stays h =
         ap (is_ready e') (same-place x)
-        ∙ ready-same e e' shaped wires (seat_number (length e.seats.items) actor) touches (seat_number (length e.seats.items) x) others-low others-apart (sym (readers-follow x in') ∙ h)
+        ∙ ready-same e e' shaped wires seats (seat_number (length e.seats.items) actor) touches (seat_number (length e.seats.items) x) others-low others-apart (sym (readers-follow x in') ∙ h)
         ∙ sym (exact-test e before x (exact x in'))
 
     pub waits-on : contains_number readers x ≡ false → waiting e' (seat_number (length e'.seats.items) x) ≡ waiting e (seat_number (length e.seats.items) x)
     waits-on h =
         ap (waiting e') (same-place x)
-        ∙ waiting-same e e' shaped wires (seat_number (length e.seats.items) actor) touches (seat_number (length e.seats.items) x) others-apart (sym (readers-follow x in') ∙ h)
+        ∙ waiting-same e e' shaped wires seats (seat_number (length e.seats.items) actor) touches (seat_number (length e.seats.items) x) others-apart (sym (readers-follow x in') ∙ h)
 
   gone : contains_number (without_actor actor before) actor ≡ false
   gone = without-gone actor before once
@@ -313,3 +319,69 @@ module _ {O : Type 0} (m : Ghosts O) (a b : Engine O) (flow : IsFlow m a.flow) (
           let are = actors-are in
           omega (arith, low, same, are)
       within x false e h = absurd (cc h)
+
+-- an engine of which no actor was ready, after more is known of a source
+module _ {O : Type 0} (m : Ghosts O) (a b : Engine O) (engine : IsEngine m a) (empty : a.ready.list ≡ []) (sources : Vec Recorded Global) (ahead : Vec (Option ℕ) Global)
+    (flow : IsFlow m (record a.flow { sources = sources; ahead = ahead }))
+    (looked : Looked (0 ∷ []) (record a { flow = record a.flow { sources = sources; ahead = ahead } }) b) where
+  abbrev ops : ℕ
+  ops = length a.flow.seats.items
+
+  abbrev more : Flow O
+  more = record a.flow { sources = sources; ahead = ahead }
+
+  abbrev fed-list : List ℕ
+  fed-list = filter (is_new more []) (0 ∷ [])
+
+  list-fed : b.ready.list ≡ fed-list
+  list-fed = looked.list ∙ ap (λ xs. xs ++ filter (is_new more xs) (0 ∷ [])) empty
+
+  -- an operator is as ready as it was: it wasn't
+  never : (x : ℕ) → x ≢ 0 → x ≤ ops → is_ready more (seat_number ops x) ≡ false
+  never zero ne low = absurd (ne refl)
+  never (suc k) ne low =
+      ap (is_ready more) (place-next ops k)
+      ∙ ap (λ t. not (done_at a.flow.over (slice_get a.flow.seats.items k)) && (list_all (λ arc. stands (face a.flow.queues arc)) (arcs_read a.flow.wires k) && t))
+      (goes (is_clear sources.items ahead.items) ∙ sym (goes (is_clear a.flow.sources.items a.flow.ahead.items)))
+      ∙ ap (is_ready a.flow) (sym (place-next ops k)) ∙ sym (exact-test a.flow a.ready.list (suc k) (engine.exact (suc k) low)) ∙ ap (λ xs. contains_number xs (suc k)) empty
+    where
+      goes : (clear : Bool) → cond (eqb k ops) clear true ≡ true
+      goes clear = ap (λ t. cond t clear true) (eqb-not k ops (omega (arith, low)))
+
+  listed-one : (x : ℕ) → x ≤ ops → contains_number fed-list x ≡ is_ready more (seat_number ops x)
+  listed-one x low = contains_filter (is_new more []) (0 ∷ []) x ∙ by (eqb x 0) refl
+    where
+      by : (t : Bool) → eqb x 0 ≡ t → ((eqb 0 x || false) && is_new more [] x) ≡ is_ready more (seat_number ops x)
+      by true t = ap (λ s. (s || false) && is_new more [] x) (eqb_true 0 x (sym (exact_unsigned_eq x 0 t))) ∙ and-true (is_ready more (seat_number ops x))
+      by false t =
+          let ne : x ≢ 0 = eqb-no x 0 t in
+          ap (λ s. (s || false) && is_new more [] x) (eqb-not 0 x (λ e. ne (sym e))) ∙ sym (never x ne low)
+
+  pub engine-fed : IsEngine m b
+  engine-fed =
+      record {
+        flow = subst (IsFlow m) (sym looked.flow) flow;
+        room = record { actors = actors-are; waits = looked.waits_len ∙ engine.room.waits ∙ ap (λ n. n + 1) (sym seats-are) };
+        exact = λ x low.
+            subst (λ f. ExactFor f b.ready.list x) (sym looked.flow) (subst (λ xs. ExactFor more xs x) (sym list-fed)
+            (exact-of more fed-list x (listed-one x (rw (← seats-are) low))));
+        below = λ x is. within x (eqb 0 x) refl (sym (contains_filter (is_new more []) (0 ∷ []) x) ∙ subst (λ xs. contains_number xs x ≡ true) list-fed is);
+        once = subst OnlyOnce (sym list-fed) (once-climbs fed-list (climbs-filter (is_new more []) (0 ∷ []) ((λ y is. absurd (cc is)), tt)));
+        waits = λ x low.
+            looked.waits x ∙ at x (eqb 0 x) (rw (← seats-are) low) ∙ ap (λ (f : Flow O). waiting f (seat_number (length f.seats.items) x)) (sym looked.flow);
+        running = looked.failed ∙ engine.running;
+      }
+    where
+      seats-are : length b.flow.seats.items ≡ ops
+      seats-are = ap (λ (f : Flow O). length f.seats.items) looked.flow
+
+      actors-are : b.ready.actors ≡ length b.flow.seats.items + 1
+      actors-are = looked.actors ∙ engine.room.actors ∙ ap (λ n. n + 1) (sym seats-are)
+
+      within : (x : ℕ) (t : Bool) → eqb 0 x ≡ t → ((t || false) && is_new more [] x) ≡ true → x < b.ready.actors
+      within x true t h = let here : 0 ≡ x = exact_unsigned_eq 0 x t in omega (arith, here, actors-are)
+      within x false t h = absurd (cc h)
+
+      at : (x : ℕ) (t : Bool) → x ≤ ops → cond (t || false) (waiting more (seat_number ops x)) (get_or a.waits.items x 0) ≡ waiting more (seat_number ops x)
+      at x true low = refl
+      at x false low = engine.waits x low

@@ -449,6 +449,8 @@ module _ {O : Type 0} (m : Ghosts O) (e : Flow O) (flow : IsFlow m e) (actor tic
             apart = λ arc low to from. into.onward.sent.apart arc (away-from e.wires actor arc from) ∙ others.faces arc (not-fed arc to);
             grows = λ arc low to h. stands-pushed q1 q' (known mid) is _ _ _ into.onward.sent arc (ap stands (others.faces arc (not-fed arc to)) ∙ h);
             others = λ other low ne. ap (done_at e.over) (apart e actor s' other ne);
+            sources = λ ne. refl;
+            ahead = refl;
           }
         where
           not-fed : (arc : ℕ) → to_of (slice_get e.wires.arcs.items arc) ≢ actor → arc ≢ at
@@ -461,6 +463,7 @@ module _ {O : Type 0} (m : Ghosts O) (e : Flow O) (flow : IsFlow m e) (actor tic
             together = into.onward.sent.together;
             tells = λ told. later.known (into.onward.sent.tells told);
             wires = refl;
+            ahead = refl;
             framed = into.onward.sent.framed ∙ took.framed;
             seats = seats-len e actor s';
             closes = λ table h. h;

@@ -253,6 +253,8 @@ module _ {O : Type 0} (m : Ghosts O) (e : Flow O) (flow : IsFlow m e) (actor : �
               (λ over. ends.ended arc low ∙ ap (λ b. b || eqb (from_of (slice_get e.wires.arcs.items arc)) actor) over)
               (stands-pushed e.queues mid was is _ _ _ into.onward.sent arc h);
           others = λ other low ne. ap (done_at e.over) (apart e actor s' other ne);
+          sources = λ ne. refl;
+          ahead = refl;
         }
 
     pub finished-stepped : Together e.queues was → done_at e.over (slice_get e.seats.items actor) ≡ false → Stepped m was is e behind events events'
@@ -263,6 +265,7 @@ module _ {O : Type 0} (m : Ghosts O) (e : Flow O) (flow : IsFlow m e) (actor : �
           together = ends.keeps.together is into.onward.sent.together;
           tells = into.onward.sent.tells;
           wires = refl;
+          ahead = refl;
           framed = ends.keeps.framed ∙ into.onward.sent.framed;
           seats = seats-len e actor s';
           closes = λ table h. h;

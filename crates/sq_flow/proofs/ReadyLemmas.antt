@@ -1,5 +1,5 @@
 -- Which actors are ready after a step of one: only itself, and the operators that read from it, are to be looked at.
-use Rattle.std.proofs.Common.{◌≡◌, ◌≢◌, ℕ, zero, suc, ◌-◌, ◌^◌, ◌<◌, ◌≤◌, cond, Bool, true, false, not, ◌||◌, ◌&&◌, List, ◌++◌, length, map, Some, refl, ap, sym, ◌∙◌, subst, arith}
+use Rattle.std.proofs.Common.{◌≡◌, ◌≢◌, ℕ, zero, suc, ◌-◌, ◌^◌, ◌<◌, ◌≤◌, cond, eqb, Bool, true, false, not, ◌||◌, ◌&&◌, List, ◌++◌, length, map, Some, refl, ap, sym, ◌∙◌, subst, arith}
 use Rattle.std.specs.Prelude.{slice_get, min, sum}
 use Rattle.std.specs.List.{filter, list_all}
 use Rattle.sq_sched.specs.ReadyLists.{AreActors, OnlyOnce}
@@ -10,7 +10,9 @@ use Rattle.sq_flow.specs.declared.flow.Flow.{Flow}
 use Rattle.sq_flow.specs.declared.wires.Wires.{Wires}
 use Rattle.sq_flow.specs.Wiring.{arcs_read, from_of, to_of, followers_of, Climbs, IsShaped}
 use Rattle.sq_flow.specs.Seats.{done_at}
-use Rattle.sq_flow.specs.Readiness.{stands, IsReady, is_ready, waiting, TouchesOnly}
+use Rattle.sq_flow.specs.Readiness.{stands, IsReady, is_ready, replay_goes, waiting, TouchesOnly}
+use Rattle.sq_flow.specs.Sources.{is_clear}
+use Rattle.std.proofs.lemmas.Map.Views.{exact_unsigned_eq}
 use Rattle.sq_flow.specs.Engines.{seat_number, ExactFor, is_new, readers_of}
 use Rattle.sq_flow.proofs.ListLemmas.{contains-next, zero-next, climbs-filter, once-climbs, once-append, actors-append, all-agree, all-at, all-from, map-agree}
 use Rattle.sq_words.specs.Lists.{contains_number}
@@ -20,16 +22,19 @@ use Rattle.sq_words.proofs.Lists.{contains_append, contains_filter}
 -- an actor is ready where the test says so
 pub ready-of : {O : Type 0} (e : Flow O) (place : ℕ) → is_ready e place ≡ true → IsReady e place
 ready-of e place h =
-    let both = and_true (not (done_at e.over (slice_get e.seats.items place))) (list_all (λ arc. stands (face e.queues arc)) (arcs_read e.wires place)) h in
+    let both = and_true (not (done_at e.over (slice_get e.seats.items place))) (list_all (λ arc. stands (face e.queues arc)) (arcs_read e.wires place) && replay_goes e place) h in
+    let go = and_true (list_all (λ arc. stands (face e.queues arc)) (arcs_read e.wires place)) (replay_goes e place) both.1 in
     record {
       running = not_true (done_at e.over (slice_get e.seats.items place)) both.0;
-      standing = all-at (λ arc. stands (face e.queues arc)) (arcs_read e.wires place) both.1;
+      standing = all-at (λ arc. stands (face e.queues arc)) (arcs_read e.wires place) go.0;
+      going = go.1;
     }
 
 pub test-of : {O : Type 0} (e : Flow O) (place : ℕ) → IsReady e place → is_ready e place ≡ true
 test-of e place h =
-    ap (λ b. not b && list_all (λ arc. stands (face e.queues arc)) (arcs_read e.wires place)) h.running
-    ∙ all-from (λ arc. stands (face e.queues arc)) (arcs_read e.wires place) h.standing
+    ap (λ b. not b && (list_all (λ arc. stands (face e.queues arc)) (arcs_read e.wires place) && replay_goes e place)) h.running
+    ∙ ap (λ b. b && replay_goes e place) (all-from (λ arc. stands (face e.queues arc)) (arcs_read e.wires place) h.standing)
+    ∙ h.going
 
 same-test : (a b : Bool) → (a ≡ true → b ≡ true) → (b ≡ true → a ≡ true) → a ≡ b
 same-test true b f g = sym (f refl)
@@ -88,7 +93,8 @@ readers-within e shaped place (suc k) h =
     omega (arith, low)
 
 -- a step of the actor at a place leaves the others as ready as they were, and those that don't read from it exactly so
-module _ {O : Type 0} (e e' : Flow O) (shaped : IsShaped e.wires (length e.seats.items)) (wires : e'.wires ≡ e.wires) (step : ℕ) (touches : TouchesOnly step e e') where
+module _ {O : Type 0} (e e' : Flow O) (shaped : IsShaped e.wires (length e.seats.items)) (wires : e'.wires ≡ e.wires)
+    (seats : length e'.seats.items ≡ length e.seats.items) (step : ℕ) (touches : TouchesOnly step e e') where
   arcs-same : (other : ℕ) → arcs_read e'.wires other ≡ arcs_read e.wires other
   arcs-same other = ap (λ (w : Wires). arcs_read w other) wires
 
@@ -103,11 +109,23 @@ module _ {O : Type 0} (e e' : Flow O) (shaped : IsShaped e.wires (length e.seats
           → contains_number (followers_of e.wires step) other ≡ true
       followed low t f = subst (λ a. contains_number (followers_of e.wires step) a ≡ true) t (subst (λ a. contains_number (followers_of e.wires a) (to_of (slice_get e.wires.arcs.items arc)) ≡ true) f (shaped.followed arc low))
 
+  -- what the replay waits for changes by its own steps alone
+  goes-same : (other : ℕ) → other ≢ step → replay_goes e' other ≡ replay_goes e other
+  goes-same other ne = ap (λ n. cond (eqb other n) (is_clear e'.sources.items e'.ahead.items) true) seats ∙ by (eqb other (length e.seats.items)) refl
+    where
+      by : (b : Bool) → eqb other (length e.seats.items) ≡ b
+          → cond b (is_clear e'.sources.items e'.ahead.items) true ≡ cond b (is_clear e.sources.items e.ahead.items) true
+      by false h = refl
+      by true h =
+          let here : other ≡ length e.seats.items = exact_unsigned_eq other (length e.seats.items) h in
+          ap (λ v. is_clear v.items e'.ahead.items) (touches.sources (λ same. ne (here ∙ sym same))) ∙ ap (λ v. is_clear e.sources.items v.items) touches.ahead
+
   pub ready-same : (other : ℕ) → other ≤ length e.seats.items → other ≢ step → contains_number (followers_of e.wires step) other ≡ false → is_ready e' other ≡ is_ready e other
   ready-same other low ne none =
-      ap (λ b. not b && list_all (λ arc. stands (face e'.queues arc)) (arcs_read e'.wires other)) (touches.others other low ne)
-      ∙ ap (λ arcs. not (done_at e.over (slice_get e.seats.items other)) && list_all (λ arc. stands (face e'.queues arc)) arcs) (arcs-same other)
-      ∙ ap (λ b. not (done_at e.over (slice_get e.seats.items other)) && b)
+      ap (λ b. not b && (list_all (λ arc. stands (face e'.queues arc)) (arcs_read e'.wires other) && replay_goes e' other)) (touches.others other low ne)
+      ∙ ap (λ arcs. not (done_at e.over (slice_get e.seats.items other)) && (list_all (λ arc. stands (face e'.queues arc)) arcs && replay_goes e' other)) (arcs-same other)
+      ∙ ap (λ b. not (done_at e.over (slice_get e.seats.items other)) && (list_all (λ arc. stands (face e'.queues arc)) (arcs_read e.wires other) && b)) (goes-same other ne)
+      ∙ ap (λ b. not (done_at e.over (slice_get e.seats.items other)) && (b && replay_goes e other))
       (all-agree (λ arc. stands (face e'.queues arc)) (λ arc. stands (face e.queues arc)) (arcs_read e.wires other) (λ port arc is. ap stands (face-same other ne none port arc is)))
 
   pub waiting-same : (other : ℕ) → other ≢ step → contains_number (followers_of e.wires step) other ≡ false → waiting e' other ≡ waiting e other
@@ -122,6 +140,7 @@ module _ {O : Type 0} (e e' : Flow O) (shaped : IsShaped e.wires (length e.seats
       test-of e' other (record {
         running = touches.others other low ne ∙ r.running;
         standing = λ port arc is. grows r port arc (subst (λ arcs. slice_get arcs port ≡ Some arc) (arcs-same other) is);
+        going = goes-same other ne ∙ r.going;
       })
     where
       grows : IsReady e other → (port arc : ℕ) → slice_get (arcs_read e.wires other) port ≡ Some arc → stands (face e'.queues arc) ≡ true

@@ -1,5 +1,5 @@
 -- What the replay keeps.
-use Rattle.std.proofs.Common.{◌≡◌, ◌≢◌, ℕ, zero, suc, ◌+◌, ◌/◌, ◌<◌, ◌≤◌, eqb, cond, Bool, true, false, not, ◌||◌, List, [], ◌∷◌, ◌++◌, length, set, Option, Some, None, refl, ap, sym, ◌∙◌, append-nil, arith, subst}
+use Rattle.std.proofs.Common.{◌≡◌, ◌≢◌, ℕ, zero, suc, ◌+◌, ◌^◌, ◌/◌, ◌<◌, ◌≤◌, eqb, cond, Bool, true, false, not, ◌||◌, List, [], ◌∷◌, ◌++◌, length, set, Option, Some, None, refl, ap, sym, ◌∙◌, append-nil, arith, subst}
 use Rattle.std.specs.Prelude.{is_some, slice_get, slice_index, Vec}
 use Rattle.std.specs.declared.alloc.Global.{Global}
 use Rattle.std.proofs.lemmas.Option.{slice_get_past, same_Some}
@@ -37,7 +37,7 @@ use Rattle.sq_flow.specs.declared.flow.Flow.{Flow}
 use Rattle.sq_flow.specs.Wiring.{net_of, arcs_from, times_in, from_of, IsOwn}
 use Rattle.sq_flow.specs.Seats.{done_at, holds_at, IsSeat}
 use Rattle.sq_flow.specs.Events.{lines_of, drops_of}
-use Rattle.sq_flow.specs.Flows.{world_of, IsFlow, HoldsItems, Goes, Stepped, ShowsPrefix, RiseFrom, to_release, tuples_to_come, fed_on, lines_left, decisions_left, count_all}
+use Rattle.sq_flow.specs.Flows.{world_of, IsFlow, HoldsItems, Goes, Stepped, ShowsPrefix, RiseFrom, to_release, tuples_to_come, may_come, fed_on, lines_left, decisions_left, count_all}
 use Rattle.sq_flow.proofs.SendLemmas.{at_or_other, apart-arcs}
 use Rattle.std.proofs.Math.Bool.{or-true, or-false}
 use Rattle.sq_flow.proofs.SeatFlow.{turns-same, goes-kept}
@@ -172,8 +172,8 @@ module _ {O : Type 0} (m : Ghosts O) (e : Flow O) (flow : IsFlow m e) where
       counts-len = ap (λ (l : List ℕ). length l) counts_are ∙ length-set mid port (slice_index mid port + 1)
           ∙ mid-len m e flow pos port v more x next at held planner' levels' mid events events' did ∙ flow.replay.counted ∙ sym sources_len
 
-      few-after : (source : ℕ) → slice_index counts'.items source + length (tuples_to_come (slice_get sources'.items source)) ≤ 1000000
-      few-after = at_or_other (λ k. slice_index counts'.items k + length (tuples_to_come (slice_get sources'.items k)) ≤ 1000000) port
+      few-after : (source : ℕ) → slice_index counts'.items source + length (tuples_to_come (slice_get sources'.items source)) ≤ 2 ^ 62
+      few-after = at_or_other (λ k. slice_index counts'.items k + length (tuples_to_come (slice_get sources'.items k)) ≤ 2 ^ 62) port
           (let low = mid-low m e flow pos port v more x next at held planner' levels' mid events events' did port in
           let few = flow.replay.few_tuples port in
           let more-is = ap (λ o. length (tuples_to_come o)) is_after in
@@ -207,9 +207,11 @@ module _ {O : Type 0} (m : Ghosts O) (e : Flow O) (flow : IsFlow m e) where
                       record {
                         few_sources = rw sources_len flow.replay.few_sources;
                         coming = coming-after;
+                        told = flow.replay.told ∙ sym sources_len;
                         counted = counts-len;
                         few_tuples = few-after;
                         ends = λ o. absurd (cc (replay-runs, o));
+                        closed = λ o. absurd (cc (replay-runs, o));
                       };
                   levels = (did.all.closed ∙ ap (λ n. x.time / n + 1) (sym did.some.epoch), first.1.0);
                   owned = λ actor. owns-later m (IsOwn e.wires actor) e.levels levels' before (slice_get e.seats.items actor) (flow.owned actor);
@@ -217,6 +219,7 @@ module _ {O : Type 0} (m : Ghosts O) (e : Flow O) (flow : IsFlow m e) where
             together = pushes.together;
             tells = pushes.tells;
             wires = refl;
+            ahead = refl;
             framed = pushes.framed;
             seats = refl;
             closes = before;
@@ -268,13 +271,15 @@ module _ {O : Type 0} (m : Ghosts O) (e : Flow O) (flow : IsFlow m e) where
               (away-from e.wires e.wires.replay arc (λ same. from (same ∙ r))));
           grows = λ arc low to h. stands-pushed e.queues q' was is _ _ _ pushes arc h;
           others = λ other low ne. refl;
+          sources = λ ne. absurd (ne refl);
+          ahead = refl;
         }
 
   -- the whole of the end of the replay
   pub ended-stepped : (pages : Option Pages) (q' : Queues) (events : List Event)
-      → Together e.queues pages → ((source : ℕ) → to_release e source ≡ []) → EndsOnly e.wires e.wires.replay e.queues q'
+      → Together e.queues pages → ((source : ℕ) → to_release e source ≡ []) → ((source : ℕ) → may_come (slice_get e.ahead.items source) ≡ None) → EndsOnly e.wires e.wires.replay e.queues q'
       → Stepped m pages pages e (record e { over = true; queues = q' }) events events
-  ended-stepped pages q' events together none ends =
+  ended-stepped pages q' events together none closed ends =
       record {
         flow_after =
             record {
@@ -285,13 +290,14 @@ module _ {O : Type 0} (m : Ghosts O) (e : Flow O) (flow : IsFlow m e) where
               seats = flow.seats;
               few = flow.few;
               held = flow.held;
-              replay = (let replay = flow.replay in record { few_sources = replay.few_sources; coming = replay.coming; counted = replay.counted; few_tuples = replay.few_tuples; ends = λ o. none });
+              replay = (let replay = flow.replay in record { few_sources = replay.few_sources; coming = replay.coming; told = replay.told; counted = replay.counted; few_tuples = replay.few_tuples; ends = λ o. none; closed = λ o. closed });
               levels = flow.levels;
               owned = flow.owned;
             };
         together = ends.keeps.together pages together;
         tells = λ told. told;
         wires = refl;
+        ahead = refl;
         framed = ends.keeps.framed;
         seats = refl;
         closes = λ table h. h;
@@ -336,6 +342,8 @@ module _ {O : Type 0} (m : Ghosts O) (e : Flow O) (flow : IsFlow m e) where
             stands-grows (face e.queues arc) (face q' arc) (λ some. ap (λ (o : Option ℕ). is_some o) (ends.keeps.first arc) ∙ some)
             (λ over. ends.ended arc low ∙ ap (λ b. b || eqb (from_of (slice_get e.wires.arcs.items arc)) e.wires.replay) over) h;
         others = λ other low ne. some-done (slice_get e.seats.items other) (slice_get-not_none e.seats.items other (omega (arith, low, ne)));
+        sources = λ ne. refl;
+        ahead = refl;
       }
     where
       some-done : (o : Option (Seat O)) → o ≢ None → done_at true o ≡ done_at e.over o

@@ -27,7 +27,7 @@ module _ {O : Type 0} (m : Ghosts O) (e : Flow O)
     (open_all : (arc : ℕ) → (face e.queues arc).ended ≡ false) (runs : e.over ≡ false)
     (seats : (actor : ℕ) → holds_at (IsNewSeat m ((net_of e.wires).takes actor) ((net_of e.wires).fits actor) (IsOwn e.wires actor) e.levels.epoch) (slice_get e.seats.items actor))
     (rises : (source : ℕ) → RiseFrom 0 (to_release e source)) (few : length e.sources.items < 2 ^ 32) (clock : e.clock ≡ 0) (none_taken : e.taken ≡ 0) (closed : e.levels.closed ≡ 1)
-    (counts : length e.counts.items ≡ length e.sources.items) (few_tuples : (source : ℕ) → slice_index e.counts.items source + length (to_release e source) ≤ 1000000) where
+    (told : length e.ahead.items ≡ length e.sources.items) (counts : length e.counts.items ≡ length e.sources.items) (few_tuples : (source : ℕ) → slice_index e.counts.items source + length (to_release e source) ≤ 2 ^ 62) where
   done-none : (actor : ℕ) → done_at e.over (slice_get e.seats.items actor) ≡ false
   done-none actor = by (slice_get e.seats.items actor) (seats actor)
     where
@@ -48,9 +48,11 @@ module _ {O : Type 0} (m : Ghosts O) (e : Flow O)
             record {
               few_sources = few;
               coming = λ source. rw clock (rises source);
+              told = told;
               counted = counts;
               few_tuples = few_tuples;
               ends = λ o. absurd (cc (sym runs ∙ o));
+              closed = λ o. absurd (cc (sym runs ∙ o));
             };
         levels = rw clock (closed ∙ first e.levels.epoch, omega arith);
         owned = λ actor. owns-of actor (slice_get e.seats.items actor) (seats actor);
@@ -116,6 +118,6 @@ module _ {O : Type 0} (e : Flow O) (closed : e.levels.closed ≡ 1) (rows : e.le
       less-none : (n : ℕ) → n - 0 ≡ n
       less-none n = omega arith
 
--- at most a million tuples of each source, of which none is counted
-pub few-first : (n : ℕ) (counts : List ℕ) (source many : ℕ) → counts ≡ replicate n 0 → many ≤ 1000000 → slice_index counts source + many ≤ 1000000
+-- tuples of each source, of which none is counted
+pub few-first : (n : ℕ) (counts : List ℕ) (source many : ℕ) → counts ≡ replicate n 0 → many ≤ 2 ^ 62 → slice_index counts source + many ≤ 2 ^ 62
 few-first n counts source many none few = let low = ap (λ l. slice_index l source) none ∙ zeros_at n source in omega (arith, low, few)

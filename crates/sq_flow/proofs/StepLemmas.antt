@@ -32,6 +32,7 @@ module _ {O : Type 0} (m : Ghosts O) where
         together = together;
         tells = λ told. told;
         wires = refl;
+        ahead = refl;
         framed = refl;
         seats = refl;
         closes = λ table agrees. agrees;
@@ -68,6 +69,7 @@ module _ {O : Type 0} (m : Ghosts O) where
           together = second.together;
           tells = λ told. first.tells (second.tells told);
           wires = second.wires ∙ first.wires;
+          ahead = second.ahead ∙ first.ahead;
           framed = second.framed ∙ first.framed;
           seats = second.seats ∙ first.seats;
           closes = λ table h. first.closes table (second.closes table h);

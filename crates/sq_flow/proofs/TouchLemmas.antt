@@ -32,7 +32,7 @@ stands-pushed q q' p p' more upto near sent arc h = stands-grows (face q arc) (f
 module _ {O : Type 0} (actor : ℕ) where
   -- nothing was done
   pub touches-none : (f : Flow O) → TouchesOnly actor f f
-  touches-none f = record { apart = λ arc low to from. refl; grows = λ arc low to h. h; others = λ other low ne. refl }
+  touches-none f = record { apart = λ arc low to from. refl; grows = λ arc low to h. h; others = λ other low ne. refl; sources = λ ne. refl; ahead = refl }
 
   pub touches-both : (f f1 f2 : Flow O) → f1.wires ≡ f.wires → length f1.seats.items ≡ length f.seats.items → TouchesOnly actor f f1 → TouchesOnly actor f1 f2 → TouchesOnly actor f f2
   touches-both f f1 f2 wires seats a b =
@@ -40,4 +40,6 @@ module _ {O : Type 0} (actor : ℕ) where
         apart = λ arc low to from. b.apart arc (rw wires low) (rw wires to) (rw wires from) ∙ a.apart arc low to from;
         grows = λ arc low to h. b.grows arc (rw wires low) (rw wires to) (a.grows arc low to h);
         others = λ other low ne. b.others other (rw seats low) ne ∙ a.others other low ne;
+        sources = λ ne. b.sources (rw seats ne) ∙ a.sources ne;
+        ahead = b.ahead ∙ a.ahead;
       }

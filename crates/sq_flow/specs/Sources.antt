@@ -63,3 +63,11 @@ pub record IsWanted (sources : List Recorded) (ahead : List (Option ℕ)) (sourc
   pub there : source < length sources
   pub bare : tuples_to_come (slice_get sources source) ≡ []
   pub more : is_some (may_come (slice_get ahead source)) ≡ true
+
+-- the same as a test of the first of what is known, and of the tick from which on more may come
+abbrev pub is_bare : Option ℕ → Option ℕ → Bool
+is_bare None from = is_some from
+is_bare (Some time) from = false
+
+abbrev pub is_wanted : List Recorded → List (Option ℕ) → ℕ → Bool
+is_wanted sources ahead source = is_bare (first_recorded (tuples_to_come (slice_get sources source))) (may_come (slice_get ahead source))

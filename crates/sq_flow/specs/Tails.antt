@@ -2,7 +2,7 @@
 --     with_tails tails flow     the flow as if all were known that comes behind what is
 --     Fits m tails flow         that may come
 --     Whatever m flow P         P at every tail that fits
-use Rattle.std.specs.Prelude.{◌≡◌, ℕ, suc, ◌+◌, ◌^◌, ◌≤◌, ◌==◌, if◌then◌else◌, List, [], ◌∷◌, ◌++◌, length, Option, Some, None, Vec, slice_get}
+use Rattle.std.specs.Prelude.{◌≡◌, ℕ, suc, ◌^◌, ◌≤◌, ◌==◌, if◌then◌else◌, List, [], ◌∷◌, ◌++◌, length, Option, Some, None, Vec, slice_get}
 use Rattle.std.specs.declared.alloc.Global.{Global}
 use mathlib.Core.Path.{◌∙◌, ap, refl}
 use Rattle.sq_value.specs.declared.Tuple.{Tuple}

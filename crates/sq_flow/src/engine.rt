@@ -1,12 +1,10 @@
 //! The engine: a flow with its ready list.
 
-ghost use Rattle.std.specs.Prelude.{◌≡◌, ◌-◌, ℕ, ◌+◌, ◌≤◌, ◌<◌, true, false, [], ◌∷◌, Option, Some, OnErr, IfOk, IfErr, length, map, slice_get};
-ghost use Rattle.sq_outside.specs.Disks.{Pages};
+ghost use Rattle.std.specs.Prelude.{◌≡◌, ◌+◌, ◌≤◌, ◌<◌, true, false, [], ◌∷◌, OnErr, IfOk, IfErr, IfSome, length, slice_get};
 ghost use Rattle.sq_pool.specs.Trust.{known};
 ghost use Rattle.sq_queue.specs.Faces.{Together};
-ghost use Rattle.std.specs.List.{flat_map, range_with_len};
-ghost use Rattle.sq_words.specs.Lists.{numbers_to, contains_number};
-ghost use Rattle.sq_plan.specs.PlanRows.{shown_after};
+ghost use Rattle.std.specs.List.{range_with_len};
+ghost use Rattle.sq_words.specs.Lists.{contains_number};
 ghost use Rattle.sq_flow.specs.Engines.{seat_number};
 
 use crate::clearing::first_held;

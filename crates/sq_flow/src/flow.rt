@@ -1,11 +1,11 @@
 //! The run of operators, one atomic step at a time.
 
-ghost use Rattle.std.specs.Prelude.{◌≡◌, ◌≢◌, ℕ, ◌^◌, ◌<◌, ◌∷◌, ◌||◌, false, [], OnOk, OnErr, IfOk, IfErr, IfSome, length, slice_get};
+ghost use Rattle.std.specs.Prelude.{◌≡◌, ◌≢◌, ℕ, ◌^◌, ◌<◌, ◌∷◌, ◌||◌, true, false, None, [], OnOk, OnErr, IfOk, IfErr, IfSome, length, slice_get};
 ghost use Rattle.sq_pool.specs.Trust.{known};
 ghost use Rattle.sq_queue.specs.Faces.{face, size};
 ghost use Rattle.sq_flow.specs.Sends.{KeepsItems, EndsOnly};
 ghost use Rattle.sq_flow.specs.Flows.{tuples_to_come};
-ghost use Rattle.sq_flow.specs.Sources.{IsNextSource};
+ghost use Rattle.sq_flow.specs.Sources.{IsNextSource, some_below, is_wanted};
 
 use crate::errors::RunErr;
 use crate::plans::{close_before, epoch_of};
@@ -70,23 +70,40 @@ pub enum Did {
     Finished,
 }
 
-/// The source that releases next: that of the least time, and of these the first; none where nothing is left.
-pub(crate) fn next_source(sources: &Vec<Stream>) -> Option<u32>
-    requires { length sources.now.items < 2 ^ 32 }
-    ensures none { result ≡ None → (source : ℕ) → tuples_to_come (slice_get sources.now.items source) ≡ [] }
-    ensures some { IfSome result (λ source. IsNextSource sources.now.items source) }
+/// What one look at the sources tells.
+#[derive(Drop)]
+pub(crate) struct Look {
+    /// The source that releases next: that of the least time, and of these the first; none where nothing is known.
+    pub next: Option<u32>,
+    /// Of some source nothing is known, and more may come.
+    pub wanted: bool,
+}
+
+/// Looks at the sources, and from which tick on more may come of each.
+pub(crate) fn look_at_sources(sources: &Vec<Stream>, ahead: &Vec<Option<u64>>) -> Look
+    requires few { length sources.now.items < 2 ^ 32 }
+    requires told { length ahead.now.items ≡ length sources.now.items }
+    ensures none { result.next ≡ None → (source : ℕ) → tuples_to_come (slice_get sources.now.items source) ≡ [] }
+    ensures some { IfSome result.next (λ source. IsNextSource sources.now.items source) }
+    ensures wanted { result.wanted ≡ some_below (is_wanted sources.now.items ahead.now.items) (length sources.now.items) }
 {
-    let mut best = None;
+    let mut next = None;
     let mut least = 0;
+    let mut wanted = false;
     for source in 0..sources.len() {
-        if let Some(time) = sources[source].time() {
-            if best.is_none() || time < least {
-                best = Some(source as u32);
-                least = time;
+        match sources[source].time() {
+            Some(time) => {
+                if next.is_none() || time < least {
+                    next = Some(source as u32);
+                    least = time;
+                }
+            }
+            None => {
+                wanted = wanted || ahead[source].is_some();
             }
         }
     }
-    best
+    Look { next, wanted }
 }
 
 /// Takes the first tuple of a source that has one left. The values of the one behind it may lie in a vector that has none.

@@ -5,7 +5,7 @@ ghost use Rattle.sq_pool.specs.Trust.{known};
 
 use crate::clearing::is_clear;
 use crate::errors::RunErr;
-use crate::flow::{Did, Flow, next_source};
+use crate::flow::{Did, Flow, look_at_sources};
 use sq_heads::{Next, next_of};
 use sq_oper::{Event, Operator};
 use sq_outside::{PageDisk, Steps};
@@ -48,10 +48,12 @@ impl<O: Operator + Drop> Flow<O> {
         ensures err { IfErr result (λ e. (n : ℕ) → StepErr O.Operator (stage D.PageDisk self.old disk.old events.old.items n)
             (stage D.PageDisk self.new disk.new events.new.items n) e) }
     {
-        if !is_clear(&self.sources, &self.ahead) {
+        let look = look_at_sources(&self.sources, &self.ahead);
+        // As long as no source is wanted, none holds back another.
+        if look.wanted && !is_clear(&self.sources, &self.ahead) {
             return Ok(Did::Waits);
         }
-        match next_source(&self.sources) {
+        match look.next {
             None => {
                 self.end_step();
                 Ok(Did::Finished)

@@ -1,22 +1,25 @@
 use Rattle.std.proofs.Common.{ℕ, zero, suc, ◌/◌, ◌≤◌, ◌<◌, length, le_trans, refl, ap, sym, ◌∙◌, arith, subst, false}
 use Rattle.std.proofs.Math.Nat.{div-zero}
-use Rattle.std.specs.Prelude.{is_some}
+use Rattle.std.specs.Prelude.{is_some, Option, Vec}
+use Rattle.std.specs.declared.alloc.Global.{Global}
 use Rattle.std.proofs.lemmas.Option.{slice_get_read, same_Some}
 use Rattle.std.proofs.lemmas.Result.{err_from_is_err_and}
 use Rattle.sq_pool.specs.Trust.{known}
 use Rattle.sq_pool.proofs.TrustLemmas.{IsLater-trans}
+use Rattle.sq_replay.specs.RecordedTuples.{Recorded}
 use Rattle.sq_flow.specs.Causes.{TakesItem}
+use Rattle.sq_flow.specs.Flows.{IsFlow}
+use Rattle.sq_flow.specs.Tails.{joined_in, closed_in}
 use Rattle.sq_queue.specs.Faces.{items_on}
 use Rattle.sq_flow.proofs.WireLemmas.{may-give}
 use Rattle.sq_flow.proofs.CauseLemmas.{cause-in, changed-since, feeds-none, full-feed, refused-feed, refused-in, too-much-in, queue-cause-since, counts-none, none-too-much}
 use Rattle.sq_flow.proofs.Measures.{weighs, open-same}
 use Rattle.sq_flow.proofs.SeatFlow.{seat-fine, runs, is-after, seats-len}
-use Rattle.sq_flow.proofs.FedFlow.{may-come, passes-front, fed-part, fed-stepped, fed-touches, costs-none, costs-fed, too-much-front}
+use Rattle.sq_flow.proofs.FedFlow.{may-come, passes-front, fed-part, fed-stepped, fed-touches, costs-fed, too-much-front}
 use Rattle.sq_flow.proofs.PlanLemmas.{div-low}
-use Rattle.sq_flow.proofs.ReleasedPlans.{plans-stay}
 use Rattle.sq_flow.proofs.ReplayFlow.{lines-stay}
 use Rattle.sq_flow.proofs.TookLemmas.{fed-sum, operator-took, goes-on}
-use Rattle.sq_flow.proofs.SteppingLemmas.{fails-here}
+use Rattle.sq_flow.proofs.SteppingLemmas.{sourced, fails-here, err-unfed}
 use Rattle.sq_flow.proofs.flow.Flow.feed_step.Goals as goal
 use Rattle.sq_words.proofs.Prefixes.{prefix_itself}
 
@@ -32,12 +35,16 @@ returns-clause-ok g c =
     let more = c.in-Ok-count_item.ensures.ok.0 in
     let low = c.in-Ok-count_item.ensures.ok.1 in
     let after = is-after c.args.self.now c.args.seat c.feed_into.new.seat c.requires.feeds.next.actor_in in
+    let stepped = λ (sources : Vec Recorded Global) (ahead : Vec (Option ℕ) Global) (flow : IsFlow g.O.Operator (sourced c.args.self.now sources ahead)).
+    fed-stepped _ (sourced c.args.self.now sources ahead) flow c.args.seat c.requires.feeds.time c.args.port c.args.arc c.arc-at.result.now c.in-Ok.item c.requires.feeds.next.actor_in c.requires.feeds.next.head c.index_mut.result.now is c.arc-at.ensures
+    (g.D.PageDisk.log c.args.disk.now) (g.D.PageDisk.log c.take_item.new.disk) c.take_item.new.queues c.requires.may.holds.together c.in-Ok.ensures.disk.later took c.requires.feeds.next.running
+    (known (g.D.PageDisk.log c.feed_into.new.disk)) c.feed_into.new.queues c.in-Ok-count_item.taken c.feed_into.new.seat c.args.events.now.items c.feed_into.new.events.items c.in-Ok.ensures.others into more low in
     record {
       step =
           record {
             moves = record {
-              stepped = fed-stepped _ c.args.self.now c.requires.may.holds.flow c.args.seat c.requires.feeds.time c.args.port c.args.arc c.arc-at.result.now c.in-Ok.item c.requires.feeds.next.actor_in c.requires.feeds.next.head c.index_mut.result.now is c.arc-at.ensures
-                  _ _ c.take_item.new.queues c.requires.may.holds.together c.in-Ok.ensures.disk.later took c.requires.feeds.next.running _ c.feed_into.new.queues _ c.feed_into.new.seat _ _ c.in-Ok.ensures.others into more low;
+              stepped = stepped c.args.self.now.sources c.args.self.now.ahead c.requires.may.holds.flow;
+              on = λ tails fits. stepped (joined_in tails c.args.self.now.sources) (closed_in c.args.self.now.ahead) fits.keeps;
               keeps = record { faults = le_trans c.in-Ok.ensures.disk.faults c.in_ok-feed_into.ensures.disk.faults; later = IsLater-trans _ _ _ c.in-Ok.ensures.disk.later c.in_ok-feed_into.ensures.disk.later; stay = into.onward.shown.stay };
               touches = fed-touches _ c.args.self.now c.requires.may.holds.flow c.args.seat c.requires.feeds.time c.args.port c.args.arc c.arc-at.result.now c.in-Ok.item c.requires.feeds.next.actor_in c.requires.feeds.next.head c.index_mut.result.now is c.arc-at.ensures
                   _ _ c.take_item.new.queues c.requires.may.holds.together c.in-Ok.ensures.disk.later took c.requires.feeds.next.running _ c.feed_into.new.queues c.in-Ok-count_item.taken c.feed_into.new.seat _ _ c.in-Ok.ensures.others into;
@@ -58,45 +65,37 @@ returns-clause-ok g c =
 pub returns-in-Err-clause-err : goal.returns-in-Err-clause-err
 returns-in-Err-clause-err g c =
     let is = slice_get_read c.args.self.now.seats.items _ c.args.seat c.index.result.now refl c.requires.feeds.next.actor_in c.index.ensures in
-    record {
-      keeps = record { faults = c.in-Err.ensures.disk.faults; later = c.in-Err.ensures.disk.later; stay = prefix_itself _ };
-      closes = λ table agrees. agrees;
-      prefix = lines-stay _ (known (g.D.PageDisk.log c.args.disk.now)) (known (g.D.PageDisk.log c.take_item.new.disk)) c.args.self.now c.args.self.now.levels c.args.events.now.items c.args.events.now.items (λ o. refl) (λ w. refl);
-      plans = plans-stay c.args.self.now c.args.events.now.items c.args.events.now.items refl;
-      strange =
-          λ told table agrees holds.
-          c.in-Err.ensures.err.honest told
-          (λ item more front.
-          passes-front _ c.args.self.now c.requires.may.holds.flow c.args.seat c.requires.feeds.time c.args.port c.args.arc c.arc-at.result.now item c.requires.feeds.next.actor_in c.requires.feeds.next.head
-          c.index.result.now is c.arc-at.ensures table agrees (items_on c.args.self.now.queues (known (g.D.PageDisk.log c.args.disk.now))) holds (c.requires.may.holds.together.faces (c.in-Err.ensures.disk.later.known told)) more front);
-      cause = refused-in _ c.args.seat c.args.port c.args.arc c.index.result.now c.arc-at.result.now _ _ _ _ _ _ c.requires.feeds.next.head.1 is c.arc-at.ensures c.in-Err.ensures.err.cause;
-      feed =
-          fails-here _ _ _ _ _ _ _ c.requires.may.holds.flow c.requires.may.holds.together c.in-Err.ensures.disk.later
-          (refused-feed c.args.self.now (record c.args.self.now { queues = c.take_item.new.queues }) c.args.seat c.args.port c.args.arc _ _ _ _ _ _ _ _ c.requires.feeds.next.head.1 refl c.in-Err.ensures.err.cause);
-      cost = costs-none _ c.args.self.now c.requires.may.holds.flow (known (g.D.PageDisk.log c.args.disk.now)) (known (g.D.PageDisk.log c.take_item.new.disk)) c.args.self.now.levels c.args.steps.now c.args.steps.now refl;
-      too_much = none-too-much _ _ _ _ _ _ c.in-Err.ensures.err.counts;
-    }
+    let events = c.args.events.now.items in
+    let was = known (g.D.PageDisk.log c.args.disk.now) in
+    err-unfed _ _ _ _ c.requires.may.holds.flow (record { faults = c.in-Err.ensures.disk.faults; later = c.in-Err.ensures.disk.later; stay = prefix_itself _ }) refl refl refl
+    (λ sources ahead flow. lines-stay _ was (known (g.D.PageDisk.log c.take_item.new.disk)) (sourced c.args.self.now sources ahead) c.args.self.now.levels events events (λ o. refl) (λ w. refl))
+    (λ sources ahead flow told table agrees holds.
+    c.in-Err.ensures.err.honest told
+    (λ item more front.
+    passes-front _ (sourced c.args.self.now sources ahead) flow c.args.seat c.requires.feeds.time c.args.port c.args.arc c.arc-at.result.now item c.requires.feeds.next.actor_in c.requires.feeds.next.head
+    c.index.result.now is c.arc-at.ensures table agrees (items_on c.args.self.now.queues was) holds (c.requires.may.holds.together.faces (c.in-Err.ensures.disk.later.known told)) more front))
+    (λ sources sources' ahead ahead' flow. none-too-much _ _ _ _ _ _ c.in-Err.ensures.err.counts)
+    (refused-in _ c.args.seat c.args.port c.args.arc c.index.result.now c.arc-at.result.now _ _ _ _ _ _ c.requires.feeds.next.head.1 is c.arc-at.ensures c.in-Err.ensures.err.cause)
+    (fails-here _ _ _ _ _ _ _ c.requires.may.holds.flow c.requires.may.holds.together c.in-Err.ensures.disk.later
+    (refused-feed c.args.self.now (record c.args.self.now { queues = c.take_item.new.queues }) c.args.seat c.args.port c.args.arc _ _ _ _ _ _ _ _ c.requires.feeds.next.head.1 refl c.in-Err.ensures.err.cause))
 
 pub returns-in-Err-count_item-clause-err : goal.returns-in-Err-count_item-clause-err
 returns-in-Err-count_item-clause-err g c =
     let is = slice_get_read c.args.self.now.seats.items _ c.args.seat c.index.result.now refl c.requires.feeds.next.actor_in c.index.ensures in
-    record {
-      keeps = record { faults = c.in-Ok.ensures.disk.faults; later = c.in-Ok.ensures.disk.later; stay = prefix_itself _ };
-      closes = λ table agrees. agrees;
-      prefix = lines-stay _ (known (g.D.PageDisk.log c.args.disk.now)) (known (g.D.PageDisk.log c.take_item.new.disk)) c.args.self.now c.args.self.now.levels c.args.events.now.items c.args.events.now.items (λ o. refl) (λ w. refl);
-      plans = plans-stay c.args.self.now c.args.events.now.items c.args.events.now.items refl;
-      strange = λ told table agrees holds. rw c.in-Err-count_item.ensures.err.0 tt;
-      cause = too-much-in _ _ _ _ _ _ c.in-Err-count_item.ensures.err.0;
-      feed =
-          fails-here _ _ _ _ _ _ _ c.requires.may.holds.flow c.requires.may.holds.together c.in-Ok.ensures.disk.later
-          (full-feed c.args.self.now (record c.args.self.now { queues = c.take_item.new.queues }) c.args.seat c.args.port c.args.arc c.in-Ok.item _ _ _ c.requires.feeds.next.head.1 refl
-          c.in-Ok.ensures.ok.taken c.in-Err-count_item.ensures.err.0 c.in-Err-count_item.ensures.err.1);
-      cost = costs-none _ c.args.self.now c.requires.may.holds.flow (known (g.D.PageDisk.log c.args.disk.now)) (known (g.D.PageDisk.log c.take_item.new.disk)) c.args.self.now.levels c.args.steps.now c.args.steps.now refl;
-      too_much =
-          too-much-front _ c.args.self.now c.requires.may.holds.flow c.args.seat c.requires.feeds.time c.args.port c.args.arc c.arc-at.result.now c.in-Ok.item c.requires.feeds.next.actor_in c.requires.feeds.next.head c.index.result.now is c.arc-at.ensures
-          (g.D.PageDisk.log c.args.disk.now) (g.D.PageDisk.log c.take_item.new.disk) c.take_item.new.queues _ c.in-Err-count_item.e c.requires.may.holds.together c.in-Ok.ensures.disk.later c.in-Ok.ensures.ok.taken c.in-Ok.ensures.ok.others
-          c.in-Err-count_item.ensures.err.1 c.in-Err-count_item.ensures.few refl refl;
-    }
+    let events = c.args.events.now.items in
+    let was = g.D.PageDisk.log c.args.disk.now in
+    let now = g.D.PageDisk.log c.take_item.new.disk in
+    err-unfed _ _ _ _ c.requires.may.holds.flow (record { faults = c.in-Ok.ensures.disk.faults; later = c.in-Ok.ensures.disk.later; stay = prefix_itself _ }) refl refl refl
+    (λ sources ahead flow. lines-stay _ (known was) (known now) (sourced c.args.self.now sources ahead) c.args.self.now.levels events events (λ o. refl) (λ w. refl))
+    (λ sources ahead flow told table agrees holds. rw c.in-Err-count_item.ensures.err.0 tt)
+    (λ sources sources' ahead ahead' flow.
+    too-much-front _ (sourced c.args.self.now sources ahead) flow c.args.seat c.requires.feeds.time c.args.port c.args.arc c.arc-at.result.now c.in-Ok.item c.requires.feeds.next.actor_in c.requires.feeds.next.head c.index.result.now is c.arc-at.ensures
+    was now c.take_item.new.queues (record (sourced c.args.self.now sources' ahead') { queues = c.take_item.new.queues }) c.in-Err-count_item.e c.requires.may.holds.together c.in-Ok.ensures.disk.later c.in-Ok.ensures.ok.taken c.in-Ok.ensures.ok.others
+    c.in-Err-count_item.ensures.err.1 c.in-Err-count_item.ensures.few refl refl)
+    (too-much-in _ _ _ _ _ _ c.in-Err-count_item.ensures.err.0)
+    (fails-here _ _ _ _ _ _ _ c.requires.may.holds.flow c.requires.may.holds.together c.in-Ok.ensures.disk.later
+    (full-feed c.args.self.now (record c.args.self.now { queues = c.take_item.new.queues }) c.args.seat c.args.port c.args.arc c.in-Ok.item _ _ _ c.requires.feeds.next.head.1 refl
+    c.in-Ok.ensures.ok.taken c.in-Err-count_item.ensures.err.0 c.in-Err-count_item.ensures.err.1))
 
 pub returns-in_err-feed_into-clause-err : goal.returns-in_err-feed_into-clause-err
 returns-in_err-feed_into-clause-err g c =
@@ -107,20 +106,18 @@ returns-in_err-feed_into-clause-err g c =
     (same_Some c.index.result.now c.index_mut.result.now (sym was ∙ is)) c.in-Ok.ensures.ok in
     let part = c.in_err-feed_into.ensures.part in
     rw (p.1, p.2)
-    (record {
-      keeps = record { faults = le_trans c.in-Ok.ensures.disk.faults c.in_err-feed_into.ensures.disk.faults; later = IsLater-trans _ _ _ c.in-Ok.ensures.disk.later c.in_err-feed_into.ensures.disk.later; stay = part.shown.stay };
-      closes = λ table agrees. agrees;
-      prefix = fed-part _ c.args.self.now c.requires.may.holds.flow c.args.seat c.requires.feeds.time c.args.port c.args.arc c.arc-at.result.now c.in-Ok.item c.requires.feeds.next.actor_in c.requires.feeds.next.head c.index_mut.result.now is c.arc-at.ensures
-          _ _ c.take_item.new.queues c.requires.may.holds.together c.in-Ok.ensures.disk.later took c.requires.feeds.next.running (known (g.D.PageDisk.log c.feed_into.new.disk)) _ _ c.in_err-feed_into.ensures.disk.later.known part;
-      plans = plans-stay c.args.self.now c.args.events.now.items c.feed_into.new.events.items part.shown.plans;
-      strange = λ told table agrees holds. changed-since _ _ _ c.in-Ok.ensures.disk.later.honest (c.in_err-feed_into.ensures.fails.honest told);
-      cause = cause-in _ _ _ _ _ _ (queue-cause-since _ _ _ _ _ _ _ _ c.in-Ok.ensures.disk.later c.in-Ok.ensures.disk.faults c.in_err-feed_into.ensures.fails.cause);
-      feed =
-          fails-here _ _ _ _ _ _ _ c.requires.may.holds.flow c.requires.may.holds.together (IsLater-trans _ _ _ c.in-Ok.ensures.disk.later c.in_err-feed_into.ensures.disk.later)
-          (feeds-none _ _ _ _ _ _ _ _ _ _ c.in_err-feed_into.ensures.fails.cause);
-      cost = costs-none _ c.args.self.now c.requires.may.holds.flow (known (g.D.PageDisk.log c.args.disk.now)) (known (g.D.PageDisk.log c.feed_into.new.disk)) c.args.self.now.levels c.args.steps.now c.feed_into.new.steps c.in_err-feed_into.ensures.no_cost;
-      too_much = none-too-much _ _ _ _ _ _ (counts-none _ _ _ _ _ _ c.in_err-feed_into.ensures.fails.cause);
-    })
+    (err-unfed _ _ _ _ c.requires.may.holds.flow
+    (record { faults = le_trans c.in-Ok.ensures.disk.faults c.in_err-feed_into.ensures.disk.faults; later = IsLater-trans _ _ _ c.in-Ok.ensures.disk.later c.in_err-feed_into.ensures.disk.later; stay = part.shown.stay })
+    refl c.in_err-feed_into.ensures.no_cost part.shown.plans
+    (λ sources ahead flow.
+    fed-part _ (sourced c.args.self.now sources ahead) flow c.args.seat c.requires.feeds.time c.args.port c.args.arc c.arc-at.result.now c.in-Ok.item c.requires.feeds.next.actor_in c.requires.feeds.next.head c.index_mut.result.now is c.arc-at.ensures
+    (g.D.PageDisk.log c.args.disk.now) (g.D.PageDisk.log c.take_item.new.disk) c.take_item.new.queues c.requires.may.holds.together c.in-Ok.ensures.disk.later took c.requires.feeds.next.running
+    (known (g.D.PageDisk.log c.feed_into.new.disk)) c.args.events.now.items c.feed_into.new.events.items c.in_err-feed_into.ensures.disk.later.known part)
+    (λ sources ahead flow told table agrees holds. changed-since _ _ _ c.in-Ok.ensures.disk.later.honest (c.in_err-feed_into.ensures.fails.honest told))
+    (λ sources sources' ahead ahead' flow. none-too-much _ _ _ _ _ _ (counts-none _ _ _ _ _ _ c.in_err-feed_into.ensures.fails.cause))
+    (cause-in _ _ _ _ _ _ (queue-cause-since _ _ _ _ _ _ _ _ c.in-Ok.ensures.disk.later c.in-Ok.ensures.disk.faults c.in_err-feed_into.ensures.fails.cause))
+    (fails-here _ _ _ _ _ _ _ c.requires.may.holds.flow c.requires.may.holds.together (IsLater-trans _ _ _ c.in-Ok.ensures.disk.later c.in_err-feed_into.ensures.disk.later)
+    (feeds-none _ _ _ _ _ _ _ _ _ _ c.in_err-feed_into.ensures.fails.cause)))
 
 -- an earlier time is of no later epoch
 epochs-climb : (time clock epoch : ℕ) → time ≤ clock → time / epoch ≤ clock / epoch

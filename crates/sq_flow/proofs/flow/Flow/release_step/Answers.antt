@@ -1,4 +1,4 @@
-use Rattle.std.proofs.Common.{◌≡◌, ℕ, ◌+◌, ◌-◌, ◌/◌, ◌≤◌, ◌<◌, List, [], ◌∷◌, Some, length, set, le_refl, refl, ap, sym, ◌∙◌, subst, arith, false}
+use Rattle.std.proofs.Common.{◌≡◌, ℕ, ◌+◌, ◌-◌, ◌/◌, ◌≤◌, ◌<◌, List, [], ◌∷◌, ◌++◌, Some, length, set, le_refl, refl, ap, sym, ◌∙◌, subst, arith, false}
 use Rattle.std.specs.Prelude.{slice_get}
 use Rattle.std.specs.Vec.{with_item}
 use Rattle.std.proofs.Math.Nat.{div-le_self}
@@ -13,12 +13,13 @@ use Rattle.sq_replay.specs.RecordedTuples.{Recorded}
 use Rattle.sq_flow.specs.Flows.{tuples_to_come}
 use Rattle.sq_flow.specs.Sources.{BeginsLeast, IsNextSource}
 use Rattle.sq_flow.proofs.WireLemmas.{arcs-open}
-use Rattle.sq_flow.proofs.CauseLemmas.{cause-in, counts-none, feeds-none, none-too-much}
+use Rattle.sq_flow.proofs.CauseLemmas.{cause-in, counts-none, feeds-none}
 use Rattle.sq_flow.proofs.ReleasedPlans.{ClosedBefore, agrees-before, in-time, sound, not-before, closed-len, closed-low, mid-len, plans-front, plans-none, plans-stay}
-use Rattle.sq_flow.proofs.ReplayFlow.{replay-open, replay-runs, item-sound, released-stepped, released-touches, lines-stay, count-less}
+use Rattle.sq_flow.proofs.ReplayFlow.{replay-open, replay-runs, item-sound, released-stepped, released-touches, count-less}
+use Rattle.sq_flow.specs.Tails.{with_tails, joined_in}
+use Rattle.sq_flow.proofs.TailLemmas.{joined-at, joined-set, next-whatever}
 use Rattle.sq_flow.proofs.TookLemmas.{replay-took}
-use Rattle.sq_flow.proofs.FedFlow.{costs-none}
-use Rattle.sq_flow.proofs.SteppingLemmas.{fails-here}
+use Rattle.sq_flow.proofs.SteppingLemmas.{fails-here, short-silent}
 use Rattle.sq_flow.proofs.flow.Flow.release_step.Goals as goal
 use Rattle.sq_words.proofs.Prefixes.{prefix_itself}
 
@@ -49,6 +50,11 @@ returns-in-Ok-clause-ok g c =
               released-stepped _ c.args.self.now c.requires.may.holds.flow pos c.args.source c.index_mut.result.now c.first_of.new.stream c.in_ok-tuple.tuple c.requires.next at c.in_ok-tuple.ensures.ok _ _ _ _ _ did
               (with_item c.args.self.now.sources c.args.source c.first_of.new.stream) (with_item c.close_before.new.counts c.args.source (c.index_mut-2.result.now + 1)) refl counted
               (known (g.D.PageDisk.log c.args.disk.now)) (known (g.D.PageDisk.log c.send_one.new.disk)) c.send_one.new.queues c.requires.may.holds.together (rw (c.none.ensures, c.some.ensures) at c.in-Ok.ensures.ok.sent);
+          on = λ tails fits.
+              released-stepped _ (with_tails tails c.args.self.now) fits.keeps pos c.args.source (record { items = c.index_mut.result.now.items ++ tails c.args.source }) (record { items = c.first_of.new.stream.items ++ tails c.args.source }) c.in_ok-tuple.tuple
+              (next-whatever tails sources c.args.self.now.ahead.items c.requires.clear fits.may c.args.source c.requires.next) (joined-at tails sources c.args.source c.index_mut.result.now at) (ap (λ l. l ++ tails c.args.source) c.in_ok-tuple.ensures.ok) _ _ _ _ _ did
+              (joined_in tails (with_item c.args.self.now.sources c.args.source c.first_of.new.stream)) (with_item c.close_before.new.counts c.args.source (c.index_mut-2.result.now + 1)) (joined-set tails sources c.args.source c.first_of.new.stream) counted
+              (known (g.D.PageDisk.log c.args.disk.now)) (known (g.D.PageDisk.log c.send_one.new.disk)) c.send_one.new.queues c.requires.may.holds.together (rw (c.none.ensures, c.some.ensures) at c.in-Ok.ensures.ok.sent);
           keeps = record { faults = c.in-Ok.ensures.disk.faults; later = c.in-Ok.ensures.disk.later; stay = c.in_ok-close_before.ensures.closes.stay };
           touches =
               released-touches _ c.args.self.now c.requires.may.holds.flow pos c.args.source c.index_mut.result.now c.first_of.new.stream c.in_ok-tuple.tuple c.requires.next at c.in_ok-tuple.ensures.ok
@@ -67,17 +73,15 @@ returns-in-Ok-clause-ok g c =
 pub returns-in_err-tuple-clause-err : goal.returns-in_err-tuple-clause-err
 returns-in_err-tuple-clause-err g c =
     let p = err_from_is_err_and c.from_residual.result c.from_residual.ensures.1 in
+    let events = c.args.events.now.items in
     rw (p.1, p.2)
     (λ n. record {
       keeps = record { faults = le_refl _; later = IsLater-refl _; stay = prefix_itself _ };
       closes = λ table agrees. agrees;
-      prefix = lines-stay _ (known (g.D.PageDisk.log c.args.disk.now)) (known (g.D.PageDisk.log c.args.disk.now)) c.args.self.now c.args.self.now.levels c.args.events.now.items c.args.events.now.items (λ o. refl) (λ w. refl);
-      plans = plans-stay c.args.self.now c.args.events.now.items c.args.events.now.items refl;
-      strange = λ told table agrees holds. tt;
+      short = short-silent _ _ _ _ c.requires.may.holds.flow refl (λ o. refl) (λ w. refl) (plans-stay c.args.self.now events events refl) (λ told. tt) (λ same. cc same);
+      on = λ tails fits. short-silent _ _ _ _ fits.keeps refl (λ o. refl) (λ w. refl) (plans-stay (with_tails tails c.args.self.now) events events refl) (λ told. tt) (λ same. cc same);
       cause = tt;
       feed = fails-here _ _ _ _ _ _ _ c.requires.may.holds.flow c.requires.may.holds.together (IsLater-refl _) tt;
-      cost = costs-none _ c.args.self.now c.requires.may.holds.flow (known (g.D.PageDisk.log c.args.disk.now)) (known (g.D.PageDisk.log c.args.disk.now)) c.args.self.now.levels n n refl;
-      too_much = none-too-much _ _ _ _ _ _ (λ same. cc same);
     })
 
 pub returns-in_err-close_before-clause-err : goal.returns-in_err-close_before-clause-err
@@ -87,21 +91,25 @@ returns-in_err-close_before-clause-err g c =
     let at = slice_get_read sources _ c.args.source c.index_mut.result.now refl c.requires.next.there c.index_mut.ensures.value in
     let pos : 0 < c.args.self.now.levels.epoch = omega (arith, c.epoch.ensures.epoch, c.epoch.ensures.lasts) in
     let next_is = next-is _ _ _ _ c.epoch_of-next.ensures c.epoch.ensures.epoch in
+    let closes = c.in_err-close_before.ensures.closes in
+    let agrees = λ (all : ℕ → List ℕ).
+    subst (λ (n : ℕ). (c.args.self.now.levels.closed < n + 1 → Ended all (c.args.self.now.levels.closed - 1) n c.args.self.now.counts.items)
+    → AgreesWith c.args.self.now.levels (level_for c.args.self.now.planner all) → AgreesWith c.close_before.new.levels (level_for c.args.self.now.planner all)) next_is (closes.agrees all) in
     rw (p.1, p.2)
     (λ n. record {
-      keeps = record { faults = le_refl _; later = IsLater-refl _; stay = c.in_err-close_before.ensures.closes.stay };
-      closes = agrees-before c.args.self.now.levels c.close_before.new.levels c.in_err-close_before.ensures.closes.keeps c.in_err-close_before.ensures.closes.grows;
-      prefix = lines-stay _ (known (g.D.PageDisk.log c.args.disk.now)) (known (g.D.PageDisk.log c.args.disk.now)) c.args.self.now c.close_before.new.levels c.args.events.now.items c.close_before.new.events.items c.in_err-close_before.ensures.closes.lines c.in_err-close_before.ensures.closes.drops;
-      plans =
-          plans-none _ c.args.self.now c.requires.may.holds.flow pos c.args.source c.index_mut.result.now c.first_of.new.stream c.in_ok-tuple.tuple c.requires.next at c.in_ok-tuple.ensures.ok c.close_before.new.levels c.args.events.now.items c.close_before.new.events.items
-          (λ all. subst (λ (n : ℕ). (c.args.self.now.levels.closed < n + 1 → Ended all (c.args.self.now.levels.closed - 1) n c.args.self.now.counts.items)
-          → AgreesWith c.args.self.now.levels (level_for c.args.self.now.planner all) → AgreesWith c.close_before.new.levels (level_for c.args.self.now.planner all)) next_is (c.in_err-close_before.ensures.closes.agrees all))
-          c.in_err-close_before.ensures.err;
-      strange = λ told table agrees holds. tt;
+      keeps = record { faults = le_refl _; later = IsLater-refl _; stay = closes.stay };
+      closes = agrees-before c.args.self.now.levels c.close_before.new.levels closes.keeps closes.grows;
+      short =
+          short-silent _ _ _ _ c.requires.may.holds.flow refl closes.lines closes.drops
+          (plans-none _ c.args.self.now c.requires.may.holds.flow pos c.args.source c.index_mut.result.now c.first_of.new.stream c.in_ok-tuple.tuple c.requires.next at c.in_ok-tuple.ensures.ok c.close_before.new.levels c.args.events.now.items c.close_before.new.events.items
+          agrees c.in_err-close_before.ensures.err) (λ told. tt) (λ same. cc same);
+      on = λ tails fits.
+          short-silent _ _ _ _ fits.keeps refl closes.lines closes.drops
+          (plans-none _ (with_tails tails c.args.self.now) fits.keeps pos c.args.source (record { items = c.index_mut.result.now.items ++ tails c.args.source }) (record { items = c.first_of.new.stream.items ++ tails c.args.source }) c.in_ok-tuple.tuple
+          (next-whatever tails sources c.args.self.now.ahead.items c.requires.clear fits.may c.args.source c.requires.next) (joined-at tails sources c.args.source c.index_mut.result.now at) (ap (λ l. l ++ tails c.args.source) c.in_ok-tuple.ensures.ok)
+          c.close_before.new.levels c.args.events.now.items c.close_before.new.events.items agrees c.in_err-close_before.ensures.err) (λ told. tt) (λ same. cc same);
       cause = tt;
       feed = fails-here _ _ _ _ _ _ _ c.requires.may.holds.flow c.requires.may.holds.together (IsLater-refl _) tt;
-      cost = costs-none _ c.args.self.now c.requires.may.holds.flow (known (g.D.PageDisk.log c.args.disk.now)) (known (g.D.PageDisk.log c.args.disk.now)) c.close_before.new.levels n n refl;
-      too_much = none-too-much _ _ _ _ _ _ (λ same. cc same);
     })
 
 pub returns-in-Err-clause-err : goal.returns-in-Err-clause-err
@@ -118,19 +126,26 @@ returns-in-Err-clause-err g c =
     let read = get_or_from_slice_get c.close_before.new.counts.items c.args.source c.index_mut-2.result.now 0
     (slice_get_read c.close_before.new.counts.items _ c.args.source c.index_mut-2.result.now refl within c.index_mut-2.ensures.value) in
     let counted = ap (λ n. set c.close_before.new.counts.items c.args.source (n + 1)) (sym read) in
+    let closes = c.in_ok-close_before.ensures.closes in
+    let fails = c.in-Err.ensures.err.fails in
     rw (c.fault_of.ensures, c.take.ensures.value)
     (λ n. record {
-      keeps = record { faults = c.in-Err.ensures.disk.faults; later = c.in-Err.ensures.disk.later; stay = c.in_ok-close_before.ensures.closes.stay };
-      closes = agrees-before c.args.self.now.levels c.close_before.new.levels c.in_ok-close_before.ensures.closes.keeps c.in_ok-close_before.ensures.closes.grows;
-      prefix = lines-stay _ (known (g.D.PageDisk.log c.args.disk.now)) (known (g.D.PageDisk.log c.send_one.new.disk)) c.args.self.now c.close_before.new.levels c.args.events.now.items c.close_before.new.events.items c.in_ok-close_before.ensures.closes.lines c.in_ok-close_before.ensures.closes.drops;
-      plans =
-          plans-front _ c.args.self.now c.requires.may.holds.flow pos c.args.source c.index_mut.result.now c.first_of.new.stream c.in_ok-tuple.tuple c.requires.next at c.in_ok-tuple.ensures.ok _ _ _ _ _ did
-          c.send_one.new.queues (with_item c.args.self.now.sources c.args.source c.first_of.new.stream) (with_item c.close_before.new.counts c.args.source (c.index_mut-2.result.now + 1)) refl counted;
-      strange = λ told table agrees holds. c.in-Err.ensures.err.fails.honest told;
-      cause = cause-in _ _ _ _ _ _ c.in-Err.ensures.err.fails.cause;
-      feed = fails-here _ _ _ _ _ _ _ c.requires.may.holds.flow c.requires.may.holds.together c.in-Err.ensures.disk.later (feeds-none _ _ _ _ _ _ _ _ _ _ c.in-Err.ensures.err.fails.cause);
-      cost = costs-none _ c.args.self.now c.requires.may.holds.flow (known (g.D.PageDisk.log c.args.disk.now)) (known (g.D.PageDisk.log c.send_one.new.disk)) c.close_before.new.levels n n refl;
-      too_much = none-too-much _ _ _ _ _ _ (counts-none _ _ _ _ _ _ c.in-Err.ensures.err.fails.cause);
+      keeps = record { faults = c.in-Err.ensures.disk.faults; later = c.in-Err.ensures.disk.later; stay = closes.stay };
+      closes = agrees-before c.args.self.now.levels c.close_before.new.levels closes.keeps closes.grows;
+      short =
+          short-silent _ _ _ _ c.requires.may.holds.flow refl closes.lines closes.drops
+          (plans-front _ c.args.self.now c.requires.may.holds.flow pos c.args.source c.index_mut.result.now c.first_of.new.stream c.in_ok-tuple.tuple c.requires.next at c.in_ok-tuple.ensures.ok _ _ _ _ _ did
+          c.send_one.new.queues (with_item c.args.self.now.sources c.args.source c.first_of.new.stream) (with_item c.close_before.new.counts c.args.source (c.index_mut-2.result.now + 1)) refl counted)
+          fails.honest (counts-none _ _ _ _ _ _ fails.cause);
+      on = λ tails fits.
+          short-silent _ _ _ _ fits.keeps refl closes.lines closes.drops
+          (plans-front _ (with_tails tails c.args.self.now) fits.keeps pos c.args.source (record { items = c.index_mut.result.now.items ++ tails c.args.source }) (record { items = c.first_of.new.stream.items ++ tails c.args.source }) c.in_ok-tuple.tuple
+          (next-whatever tails sources c.args.self.now.ahead.items c.requires.clear fits.may c.args.source c.requires.next) (joined-at tails sources c.args.source c.index_mut.result.now at) (ap (λ l. l ++ tails c.args.source) c.in_ok-tuple.ensures.ok) _ _ _ _ _ did
+          c.send_one.new.queues (joined_in tails (with_item c.args.self.now.sources c.args.source c.first_of.new.stream)) (with_item c.close_before.new.counts c.args.source (c.index_mut-2.result.now + 1))
+          (joined-set tails sources c.args.source c.first_of.new.stream) counted)
+          fails.honest (counts-none _ _ _ _ _ _ fails.cause);
+      cause = cause-in _ _ _ _ _ _ fails.cause;
+      feed = fails-here _ _ _ _ _ _ _ c.requires.may.holds.flow c.requires.may.holds.together c.in-Err.ensures.disk.later (feeds-none _ _ _ _ _ _ _ _ _ _ fails.cause);
     })
 
 pub send_one-requires-clause-may : goal.send_one-requires-clause-may
