@@ -35,6 +35,7 @@ use Rattle.sq_flow.specs.Endings.{NothingComes}
 use Rattle.sq_flow.specs.Knowing.{IsHeld}
 use Rattle.sq_flow.specs.Engines.{AllDone, IsEngine}
 use Rattle.sq_flow.specs.Plans.{plans_left, plans_of}
+use Rattle.sq_flow.specs.Tails.{Tails, Fits, with_tails}
 use Rattle.sq_flow.specs.Takes.{NotChanged}
 use Rattle.sq_core.specs.declared.engine.Engine.{Engine}
 use Rattle.sq_core.specs.Meanings.{actors}
@@ -55,28 +56,44 @@ ready_of e = e.engine.ready.list
 abbrev pub has_failed : Engine → Bool
 has_failed e = e.engine.failed
 
--- what each step keeps, over every disk: the network is sound, and the operators are its boxes, its window drops and its outputs
+-- a flow lies as the network says: its operators are the boxes, the window drops and the outputs
+pub record IsLaidFor (n : Network) (flow : Flow Actor) : Type 0 where
+  pub boxes : flow.wires.sheds ≡ length n.boxes
+  pub drops : flow.wires.shown ≡ first_output n
+  pub operators : length flow.seats.items ≡ ops_of n
+
+-- what each step keeps, over every disk: the network is sound, and the engine lies as it says
 pub record IsSoundEngine (e : Engine) : Type 0 where
   pub network : IsSound e.network
-  pub boxes : (flow_of e).wires.sheds ≡ length e.network.boxes
-  pub drops : (flow_of e).wires.shown ≡ first_output e.network
-  pub operators : length (flow_of e).seats.items ≡ ops_of e.network
+  pub laid : IsLaidFor e.network (flow_of e)
   pub engine : IsEngine actors e.engine
 
 -- no more comes of any source than is known
 abbrev pub IsAllKnown : Engine → Type 0
 IsAllKnown e = (source : ℕ) → may_come (slice_get (flow_of e).ahead.items source) ≡ None
 
--- the engine is at work on a replay that was read. History is what it has shown, begun is what the counter of steps said when
--- nothing was fed, and steps is what it says now
+-- a flow is at work on a replay that was read. History is what was shown, begun is what the counter of steps said when nothing was
+-- fed, and steps is what it says now
+pub record RunsFlow (r : Replay) (pages : Option Pages) (flow : Flow Actor) (history : List Event) (begun steps : ℕ) : Type 0 where
+  pub read : IsReadReplay r
+  pub counted : steps ≡ begun + taken_in_all actors flow
+  pub plans : Plans r flow history
+  pub answers : Tells pages → KeepsAnswers r (items_in flow pages) flow history
+
+-- an engine is, where no more comes than is known
 pub record IsRun (r : Replay) (pages : Option Pages) (engine : Engine) (history : List Event) (begun steps : ℕ) : Type 0 where
   pub network : engine.network ≡ r.network
-  pub read : IsReadReplay r
   pub sound : IsSoundEngine engine
   pub together : Together (flow_of engine).queues pages
-  pub counted : steps ≡ begun + taken_in_all actors (flow_of engine)
-  pub plans : Plans r (flow_of engine) history
-  pub answers : Tells pages → KeepsAnswers r (items_in (flow_of engine) pages) (flow_of engine) history
+  pub at : RunsFlow r pages (flow_of engine) history begun steps
+
+-- and where these tails come behind what is known
+pub record IsRunOn (r : Replay) (tails : Tails) (pages : Option Pages) (engine : Engine) (history : List Event) (begun steps : ℕ) : Type 0 where
+  pub network : engine.network ≡ r.network
+  pub sound : IsSoundEngine engine
+  pub fits : Fits actors tails (flow_of engine)
+  pub together : Together (flow_of engine).queues pages
+  pub at : RunsFlow r pages (with_tails tails (flow_of engine)) history begun steps
 
 -- what an engine is made of: a sound network within its limits, for each source a stream of no more than a million tuples that fits it,
 -- and two frames at least
@@ -135,9 +152,9 @@ tuples_fed engine at port = tuples_in (fed_on (flow_of engine) at port)
 
 -- nothing is to come any more: no tuple at an output, no batch of a drop, no mark or tuple on an arc and no plan; and each operator was fed,
 -- and has lost, as many tuples as it will have been fed and have lost at the end
-pub record NothingLeft (e : Engine) : Type 0 where
-  pub coming : NothingComes actors (flow_of e)
-  pub plans : plans_left (flow_of e) ≡ []
+pub record NothingLeft (flow : Flow Actor) : Type 0 where
+  pub coming : NothingComes actors flow
+  pub plans : plans_left flow ≡ []
 
 -- how many tuples a box was fed, and how many of them it has neither given nor holds, where it is a BSort
 abbrev pub fed_at : Engine → ℕ → ℕ

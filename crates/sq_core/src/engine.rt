@@ -43,7 +43,9 @@ impl Drop for Engine {
 impl Engine {
     ghost use Rattle.sq_flow.specs.Engines.{AllDone};
     ghost use Rattle.sq_flow.specs.Stepping.{Remains, stage};
-    ghost use Rattle.sq_core.specs.Runs.{AreReplayParts, IsAllKnown, IsNewEngine, IsRun, IsSoundEngine, IsState, NothingLeft, SaysWhetherEnded, ShownAll, ShownSoFar};
+    ghost use Rattle.sq_flow.specs.Tails.{Tails, Whatever, with_tails};
+    ghost use Rattle.sq_core.specs.Meanings.{actors};
+    ghost use Rattle.sq_core.specs.Runs.{AreReplayParts, IsAllKnown, IsNewEngine, IsRun, IsRunOn, IsSoundEngine, IsState, NothingLeft, SaysWhetherEnded, ShownAll, ShownSoFar};
     ghost use Rattle.sq_core.specs.Runs.{fed_at, flow_of, has_failed, late_at_seat, ready_of};
     ghost use Rattle.sq_core.specs.Steps.{RunFails, RunsOn};
 
@@ -185,8 +187,10 @@ impl Engine {
 
     /// At any time what was shown is a beginning of the answers, and no more was fed than they take.
     pub fn shown_so_far(&self)
-        ensures { (r : Replay) (pages : Option Pages) (history : List Event) (begun steps : ℕ) → Tells pages
+        ensures run { (r : Replay) (pages : Option Pages) (history : List Event) (begun steps : ℕ) → Tells pages
             → IsRun r pages self.now history begun steps → ShownSoFar r history begun steps }
+        ensures run_on { (r : Replay) (tails : Tails) (pages : Option Pages) (history : List Event) (begun steps : ℕ) → Tells pages
+            → IsRunOn r tails pages self.now history begun steps → ShownSoFar r history begun steps }
     {
         let _engine = self;
     }
@@ -195,8 +199,10 @@ impl Engine {
     pub fn all_shown(&self)
         requires sound { IsSoundEngine self.now }
         requires done { AllDone (flow_of self.now) }
-        ensures { (r : Replay) (pages : Option Pages) (history : List Event) (begun steps : ℕ) → Tells pages
+        ensures run { (r : Replay) (pages : Option Pages) (history : List Event) (begun steps : ℕ) → Tells pages
             → IsRun r pages self.now history begun steps → ShownAll r self.now history begun steps }
+        ensures run_on { (r : Replay) (tails : Tails) (pages : Option Pages) (history : List Event) (begun steps : ℕ) → Tells pages
+            → IsRunOn r tails pages self.now history begun steps → ShownAll r self.now history begun steps }
     {
         early_drop_is_sound();
         self.nothing_left();
@@ -207,7 +213,8 @@ impl Engine {
     pub fn nothing_left(&self)
         requires sound { IsSoundEngine self.now }
         requires done { AllDone (flow_of self.now) }
-        ensures { NothingLeft self.now }
+        ensures known { NothingLeft (flow_of self.now) }
+        ensures on { Whatever actors (flow_of self.now) (λ tails. NothingLeft (with_tails tails (flow_of self.now))) }
     {
         self.engine.nothing_left();
     }

@@ -3,6 +3,7 @@ use Rattle.std.proofs.lemmas.List.{length-map}
 use Rattle.sq_points.proofs.Bounds.{at_most, counts}
 use Rattle.sq_model.specs.Shedding.{Replay}
 use Rattle.sq_flow.specs.Flows.{may_come}
+use Rattle.sq_flow.specs.Wiring.{IsShaped}
 use Rattle.sq_core.specs.Meanings.{actors}
 use Rattle.sq_core.specs.NewSeats.{AreNewSeats}
 use Rattle.sq_core.specs.Runs.{IsSoundEngine}
@@ -23,7 +24,7 @@ new-requires c =
     let lists = c.requires.parts.lists in
     let most = at_most 1 8 (length n.sources) (counts n sound.within).0 in
     record {
-      shaped = c.in_ok-wires.ensures.shaped;
+      shaped = subst (IsShaped c.in_ok-wires.wires) (sym c.in_ok-seats.ensures.count) c.in_ok-wires.ensures.shaped;
       seats = new-seats n sound (places-of c.early_drop_is_sound.ensures.points n sound) c.in_ok-wires.wires c.in_ok-wires.ensures c.args.seed c.in_ok-seats.seats.items c.in_ok-seats.ensures
           c.arcs_may_come.ensures.marks c.arcs_may_come.ensures.tuples c.new-levels.result.epoch (sym (ap (λ l. l.epoch) c.new-levels.ensures));
       sources = record {
@@ -49,18 +50,20 @@ returns c =
     let places = places-of c.early_drop_is_sound.ensures.points n sound in
     let wired : AreWires n flow.wires = subst (AreWires n) (sym begins.parts.wires_are) c.in_ok-wires.ensures in
     let seated : AreNewSeats n c.args.seed flow.seats.items = subst (λ v. AreNewSeats n c.args.seed v.items) (sym begins.parts.seats_are) c.in_ok-seats.ensures in
-    let whole : IsSoundEngine (record { network = n; engine = e }) = record { network = sound; boxes = wired.sheds; drops = wired.shown; operators = seated.count; engine = made.engine } in
+    let whole : IsSoundEngine (record { network = n; engine = e }) = record { network = sound; laid = record { boxes = wired.sheds; drops = wired.shown; operators = seated.count }; engine = made.engine } in
     let known : (source : ℕ) → may_come (slice_get flow.ahead.items source) ≡ None = none-come flow.ahead.items (length c.args.sources.items) (begins.parts.ahead_are ∙ c.requires.known) in
     record {
       sound = whole;
       run = λ pages steps. record {
         network = refl;
-        read = read;
         sound = whole;
         together = begins.parts.together pages;
-        counted = (let none = none-fed r read places flow wired seated in omega (arith, none));
-        plans = plans-start r flow c.in_ok-planner.planner c.new-levels.result.epoch begins.parts.planner_is c.in_ok-planner.ensures (ap (λ l. l.epoch) c.new-levels.ensures) begins.plans.planned begins.plans.plans;
-        answers = λ told. new-answers r read places flow wired seated c.arcs_may_come.ensures.fed c.in_ok-seats.seats c.args.sources refl _ _ _ _ _ begins.parts pages c.starts_as_replayed.ensures;
+        at = record {
+          read = read;
+          counted = (let none = none-fed r read places flow wired seated in omega (arith, none));
+          plans = plans-start r flow c.in_ok-planner.planner c.new-levels.result.epoch begins.parts.planner_is c.in_ok-planner.ensures (ap (λ l. l.epoch) c.new-levels.ensures) begins.plans.planned begins.plans.plans;
+          answers = λ told. new-answers r read places flow wired seated c.arcs_may_come.ensures.fed c.in_ok-seats.seats c.args.sources refl _ _ _ _ _ begins.parts pages c.starts_as_replayed.ensures;
+        };
       };
       known = known;
       ready = starts-ready actors n sound e made.engine wired seated.count begins.parts.runs begins.parts.bare known;
