@@ -19,7 +19,7 @@ use Rattle.sq_flow.proofs.EventLemmas.{drops-append, lines-append, plans-append}
 use Rattle.sq_flow.proofs.StepLemmas.{stepped-both}
 use Rattle.sq_core.specs.declared.engine.Engine.{Engine}
 use Rattle.sq_core.specs.Meanings.{actors}
-use Rattle.sq_core.specs.Runs.{IsSoundEngine, flow_of}
+use Rattle.sq_core.specs.Runs.{IsSoundEngine, NothingLeft, flow_of}
 use Rattle.sq_core.proofs.RunLemmas.{shed-in, shown-in}
 use Rattle.sq_drive.specs.Driving.{IsRestOf, WritesFirst}
 use Rattle.sq_due.specs.Histories.{IsEventAt, history_text}
@@ -67,10 +67,10 @@ stepped_then was mid from via shown first is to events second =
 
 module _ (was is : Option Pages) (from : Engine) (sound : IsSoundEngine from) where
   output_in : (o : ℕ) → o < length from.network.outputs → (flow_of from).wires.shown + o < length (flow_of from).seats.items
-  output_in o low = shown-in from from.network refl sound o (omega (arith, low, sound.network.agrees.outputs))
+  output_in o low = shown-in from.network (flow_of from) sound.laid o (omega (arith, low, sound.network.agrees.outputs))
 
   dropper_in : (w : ℕ) → w < drops_in from.network → (flow_of from).wires.sheds + w < (flow_of from).wires.shown
-  dropper_in w low = let p = has_item (points_of from.network) w low in shed-in from from.network refl sound w p.0 p.1
+  dropper_in w low = let p = has_item (points_of from.network) w low in shed-in from.network (flow_of from) sound.laid w p.0 p.1
 
   module _ (to : Engine) (events : List Event) (left : Stepped actors was is (flow_of from) (flow_of to) [] events) where
     output_after : (o : ℕ) → o < length from.network.outputs → (flow_of to).wires.shown + o < length (flow_of to).seats.items
@@ -82,25 +82,20 @@ module _ (was is : Option Pages) (from : Engine) (sound : IsSoundEngine from) wh
     dropper_after : (w : ℕ) → w < drops_in from.network → (flow_of from).wires.sheds + w < length (flow_of to).seats.items
     dropper_after w low =
         let here = dropper_in w low in
-        let shown = sound.drops in
-        let all = sound.operators in
+        let shown = sound.laid.drops in
+        let all = sound.laid.operators in
         let seats = left.seats in omega (arith, here, shown, all, seats)
 
     -- nothing is left of the engine: all was shown
-    pub rest_shown : plans_left (flow_of to) ≡ []
-        → ((pages : Option Pages) (table : ℕ → ℕ → ℕ) → HoldsItems actors table (items_in (flow_of to) pages) (flow_of to)
-        → (output : ℕ) → (flow_of to).wires.shown + output < length (flow_of to).seats.items → lines_left actors table (items_in (flow_of to) pages) (flow_of to) output ≡ [])
-        → ((pages : Option Pages) (table : ℕ → ℕ → ℕ) → HoldsItems actors table (items_in (flow_of to) pages) (flow_of to)
-        → (actor : ℕ) → actor < length (flow_of to).seats.items → decisions_left actors table (items_in (flow_of to) pages) (flow_of to) actor ≡ [])
-        → IsRestOf was is from to events
-    rest_shown no_plans no_lines no_drops = record {
-      plans = sym (left.plans ∙ ap (λ l. plans_of events ++ l) no_plans ∙ append-nil (plans_of events));
+    pub rest_shown : NothingLeft (flow_of to) → IsRestOf was is from to events
+    rest_shown none = record {
+      plans = sym (left.plans ∙ ap (λ l. plans_of events ++ l) none.plans ∙ append-nil (plans_of events));
       lines = λ told table agrees holds o low.
           sym ((left.goes told table agrees holds).lines o (output_in o low)
-          ∙ ap (λ l. lines_of o events ++ l) (no_lines is table (left.holds told table agrees holds) o (output_after o low)) ∙ append-nil (lines_of o events));
+          ∙ ap (λ l. lines_of o events ++ l) (none.coming.lines is table (left.holds told table agrees holds) o (output_after o low)) ∙ append-nil (lines_of o events));
       drops = λ told table agrees holds w low.
           sym ((left.goes told table agrees holds).drops w (dropper_in w low)
-          ∙ ap (λ l. drops_of w events ++ l) (no_drops is table (left.holds told table agrees holds) ((flow_of from).wires.sheds + w) (dropper_after w low))
+          ∙ ap (λ l. drops_of w events ++ l) (none.coming.drops is table (left.holds told table agrees holds) ((flow_of from).wires.sheds + w) (dropper_after w low))
           ∙ append-nil (drops_of w events));
     }
 

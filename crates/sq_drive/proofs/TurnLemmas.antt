@@ -13,12 +13,13 @@ use Rattle.sq_flow.specs.declared.errors.RunErr.{RunErr}
 use Rattle.sq_flow.specs.declared.steps.Progress.{Progress}
 use Rattle.sq_flow.specs.Flows.{Stepped, may_come}
 use Rattle.sq_flow.specs.Stepping.{Stage}
+use Rattle.sq_flow.specs.Tails.{with_tails}
 use Rattle.sq_flow.proofs.CauseLemmas.{page-since}
 use Rattle.sq_flow.proofs.StepLemmas.{stepped-none}
 use Rattle.sq_core.specs.Meanings.{actors}
 use Rattle.sq_core.specs.Runs.{IsRun, flow_of}
 use Rattle.sq_core.specs.Steps.{RunFails, RunsOn}
-use Rattle.sq_core.proofs.RunLemmas.{shown-so-far}
+use Rattle.sq_core.proofs.RunLemmas.{fits-after, shown-so-far}
 use Rattle.sq_status.specs.declared.Status.{Status}
 use Rattle.sq_work.proofs.StoppedLemmas.{rose_later}
 use Rattle.sq_due.specs.declared.audience.Audience.{Ghosts}
@@ -54,6 +55,7 @@ pub goes_none : (a : RunState) → IsDrivable (known a.log) a.engine → GoesOn 
 goes_none a can = record {
   there = tt;
   left = stepped-none actors (known a.log) (flow_of a.engine) [] can.sound.engine.flow can.together;
+  left_on = λ tails fits. stepped-none actors (known a.log) (with_tails tails (flow_of a.engine)) [] fits.keeps can.together;
   runs = λ r history begun run. subst (λ xs. IsRun r (known a.log) a.engine xs begun a.steps) (sym (append-nil history)) run;
   sound = can.sound;
   known = can.known;
@@ -65,6 +67,11 @@ module _ (n : Network) (a b : RunState) (events : List Event) (first : GoesOn n 
   goes_then c more second = record {
     there = all_append (IsEventAt n) events more first.there second.there;
     left = stepped_then (known a.log) (known b.log) (flow_of a.engine) (flow_of b.engine) events first.left (known c.log) (flow_of c.engine) more second.left;
+    left_on = λ tails fits.
+        let one = first.left_on tails fits in
+        let fits_then = fits-after (known a.log) (known b.log) (flow_of a.engine) (flow_of b.engine) [] events first.left tails fits one in
+        stepped_then (known a.log) (known b.log) (with_tails tails (flow_of a.engine)) (with_tails tails (flow_of b.engine)) events one (known c.log) (with_tails tails (flow_of c.engine)) more
+        (second.left_on tails fits_then);
     runs = λ r history begun run.
         subst (λ xs. IsRun r (known c.log) c.engine xs begun c.steps) (append_assoc history events more)
         (second.runs r (history ++ events) begun (first.runs r history begun run));
@@ -86,7 +93,7 @@ module _ (n : Network) (a b : RunState) (events : List Event) (first : GoesOn n 
         (second.stops told r (history ++ events) begun (first.runs r history begun run)));
     cause = stop_map (CameTo b.log c.log b.engine s) (CameTo a.log c.log a.engine s) b.log c.log a.log c.log b.faults c.faults a.faults c.faults s
         (rose_later 1 a.faults b.faults c.faults keeps.faults) (λ queues e. page-since queues a.log b.log c.log e keeps.later)
-        (λ e came. came_then a.log b.log c.log a.engine b.engine e s keeps.later events first.left keeps.network came) second.cause;
+        (λ e came. came_then a.log b.log c.log a.engine b.engine e s keeps.later events first.left first.left_on keeps.network came) second.cause;
   }
 
   -- what they showed is lost on its way out
@@ -118,6 +125,8 @@ module _ (a b : RunState) (cleared shown : List Event) (none : cleared ≡ []) w
   goes_here can pick p on = record {
     there = on.shows (subst (AllByRecursion (IsEventAt a.engine.network)) (sym none) tt);
     left = subst (λ xs. Stepped actors (known a.log) (known b.log) (flow_of a.engine) (flow_of b.engine) xs shown) none on.step.train.moves.stepped;
+    left_on = λ tails fits.
+        subst (λ xs. Stepped actors (known a.log) (known b.log) (with_tails tails (flow_of a.engine)) (with_tails tails (flow_of b.engine)) xs shown) none (on.step.train.moves.on tails fits);
     runs = λ r history begun run. on.run r history begun (run_here r history begun run);
     sound = on.sound;
     known = λ source. ap (λ (v : Vec (Option ℕ) Global). may_come (slice_get v.items source)) on.step.train.moves.stepped.ahead ∙ can.known source;

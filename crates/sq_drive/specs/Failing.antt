@@ -8,7 +8,8 @@ use Rattle.sq_model.specs.Shedding.{Replay}
 use Rattle.sq_pool.specs.Trust.{known}
 use Rattle.sq_queue.specs.Faces.{frames}
 use Rattle.sq_flow.specs.declared.errors.RunErr.{RunErr}
-use Rattle.sq_flow.specs.Flows.{FailsAt, Stepped}
+use Rattle.sq_flow.specs.Flows.{Stepped}
+use Rattle.sq_flow.specs.Stepping.{FailsAt}
 use Rattle.sq_core.specs.declared.engine.Engine.{Engine}
 use Rattle.sq_core.specs.Meanings.{actors}
 use Rattle.sq_core.specs.Runs.{IsAllKnown, IsRun, tuples_fed, flow_of}

@@ -15,6 +15,7 @@ use Rattle.sq_pool.specs.Trust.{IsLater, Tells, known}
 use Rattle.sq_queue.specs.Faces.{Together}
 use Rattle.sq_flow.specs.Engines.{AllDone}
 use Rattle.sq_flow.specs.Flows.{Stepped}
+use Rattle.sq_flow.specs.Tails.{Whatever, with_tails}
 use Rattle.sq_core.specs.declared.engine.Engine.{Engine}
 use Rattle.sq_core.specs.Meanings.{actors}
 use Rattle.sq_core.specs.Runs.{IsAllKnown, IsRun, IsSoundEngine, ShownAll, flow_of}
@@ -71,6 +72,8 @@ pub record KeepsRun (before after : RunState) : Type 0 where
 pub record GoesOn (n : Network) (before after : RunState) (events : List Event) : Type 0 where
   pub there : AllByRecursion (IsEventAt n) events
   pub left : Stepped actors (known before.log) (known after.log) (flow_of before.engine) (flow_of after.engine) [] events
+  pub left_on : Whatever actors (flow_of before.engine) (λ tails.
+      Stepped actors (known before.log) (known after.log) (with_tails tails (flow_of before.engine)) (with_tails tails (flow_of after.engine)) [] events)
   pub runs : (r : Replay) (history : List Event) (begun : ℕ)
       → IsRun r (known before.log) before.engine history begun before.steps → IsRun r (known after.log) after.engine (history ++ events) begun after.steps
   pub sound : IsSoundEngine after.engine

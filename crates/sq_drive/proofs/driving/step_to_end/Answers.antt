@@ -58,14 +58,13 @@ returns-in-Ok-close-clause-ok g c =
     let on = c.steps.invariant.on in
     let was = known (g.D.PageDisk.log c.args.disk.now) in
     let is = known (g.D.PageDisk.log c.steps.disk) in
-    let none = c.nothing_left.ensures in
     record {
       events = on.events;
       ends = record {
         on = on.goes;
         done = c.steps-test.ensures.done on.goes.sound.engine.running refl;
-        rest = rest_shown was is c.args.engine.now c.requires.engine.sound c.steps.engine on.events on.goes.left none.plans none.coming.lines none.coming.drops;
-        all = λ told r history begun run. c.all_shown.ensures r is (history ++ on.events) begun c.steps.steps told (on.goes.runs r history begun run);
+        rest = rest_shown was is c.args.engine.now c.requires.engine.sound c.steps.engine on.events on.goes.left c.nothing_left.ensures.known;
+        all = λ told r history begun run. c.all_shown.ensures.run r is (history ++ on.events) begun c.steps.steps told (on.goes.runs r history begun run);
       };
       whole = λ from history shown. c.in-Ok-close.ensures.ok from c.args.engine.now.network (history ++ on.events) (on.shown from history shown);
       ready = c.in-Ok-close.ensures.ready c.args.engine.now.network on.ready;

@@ -6,7 +6,7 @@ use Rattle.sq_due.proofs.counting.no_counts.Goals as goal
 pub returns-clause-room : goal.returns-clause-room
 returns-clause-room c = record {
   lines = ap (λ xs. length xs) c.in_ok-lines.ensures ∙ length-replicate _ 0 ∙ c.count_outputs.ensures;
-  drops = ap (λ xs. length xs) c.in_ok-drops.ensures ∙ length-replicate _ 0 ∙ omega (arith, c.requires.drops, c.requires.boxes);
+  drops = ap (λ xs. length xs) c.in_ok-drops.ensures ∙ length-replicate _ 0 ∙ omega (arith, c.requires.laid.drops, c.requires.laid.boxes);
 }
 
 pub returns-clause-none : goal.returns-clause-none
