@@ -40,11 +40,7 @@ pub fn filter_list(
 
 /// What a Map gives for a tuple: a tuple of the same time, with the values of the expressions. They stand in the vector that is
 /// handed in.
-pub fn map_into(
-    mut fields: Vec<Value>,
-    exprs: &[Typed],
-    tuple: &Tuple,
-) -> Result<Tuple, AllocError>
+pub fn map_into(mut fields: Vec<Value>, exprs: &[Typed], tuple: &Tuple) -> Result<Tuple, AllocError>
     requires empty { fields.items ≡ [] }
     ensures { IfOk result (λ m. m ≡ mapped (map (λ e. e.tree) exprs.now) tuple.now) }
 {
