@@ -12,7 +12,7 @@ use sq_item::Item;
 use sq_oper::{Decision, Event, Outlet};
 use sq_outside::PageDisk;
 use sq_queue::Queues;
-use sq_value::Fields;
+use sq_value::{Fields, Value};
 use std::alloc::{AllocError, Global};
 
 /// The outlet of an actor: its items go into the queues of the arcs that come from it, or are shown, and its decisions are shown.
@@ -63,6 +63,12 @@ impl<D: PageDisk> Outlet for QueueOutlet<'_, '_, '_, '_, '_, D> {
     #[inline(always)]
     fn let_go(&mut self, fields: Fields) {
         self.queues.spares.keep(fields);
+    }
+
+    #[inline(always)]
+    fn reuse(&mut self) -> Vec<Value> {
+        let alloc = self.alloc();
+        self.queues.spares.reuse(alloc)
     }
 
     fn decide(&mut self, decision: Decision) -> Result<(), AllocError> {

@@ -21,5 +21,5 @@ pub use resamples::{resample_list, with_answers};
 pub use sides::{Sides, begins_past, passing_pair};
 pub use sorter::Sorter;
 pub use sorts::{bsort_list, time_in_field};
-pub use tuples::{filter_list, map_list, map_tuple, port_of_tuple};
+pub use tuples::{filter_list, map_into, map_list, port_of_tuple};
 pub use windows::aggregate_list;

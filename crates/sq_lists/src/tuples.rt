@@ -1,10 +1,10 @@
 //! Filter and Map.
 
-ghost use Rattle.std.specs.Prelude.{◌≡◌, ◌≤◌, map, length, IfOk};
+ghost use Rattle.std.specs.Prelude.{◌≡◌, ◌≤◌, [], map, length, IfOk};
 ghost use Rattle.sq_lists.specs.Boxes.{port_taken, filter_list_of, mapped, map_list_of};
 
 use sq_expr::{Typed, eval, holds};
-use sq_value::{ListOf, Tuple, copy_tuple};
+use sq_value::{ListOf, Tuple, Value, copy_tuple};
 use std::alloc::{AllocError, Global};
 
 /// The port of a tuple: the number of the first predicate that is true, else their number. Null is not true.
@@ -38,11 +38,13 @@ pub fn filter_list(
     Ok(kept)
 }
 
-/// What a Map gives for a tuple: a tuple of the same time, with the values of the expressions.
-pub fn map_tuple(alloc: Global, exprs: &[Typed], tuple: &Tuple) -> Result<Tuple, AllocError>
+/// What a Map gives for a tuple: a tuple of the same time, with the values of the expressions. They stand in the vector that is
+/// handed in.
+pub fn map_into(mut fields: Vec<Value>, exprs: &[Typed], tuple: &Tuple) -> Result<Tuple, AllocError>
+    requires empty { fields.items ≡ [] }
     ensures { IfOk result (λ m. m ≡ mapped (map (λ e. e.tree) exprs.now) tuple.now) }
 {
-    let mut fields = Vec::with_capacity(alloc, exprs.len())?;
+    fields.reserve_exact(exprs.len())?;
     for e in exprs {
         fields.push(eval(e, tuple)?)?;
     }
@@ -58,7 +60,7 @@ pub fn map_list(alloc: Global, exprs: &[Typed], tuples: &[Tuple]) -> Result<Vec<
 {
     let mut made = Vec::new(alloc);
     for x in tuples {
-        made.push(map_tuple(alloc, exprs, x)?)?;
+        made.push(map_into(Vec::new(alloc), exprs, x)?)?;
     }
     Ok(made)
 }

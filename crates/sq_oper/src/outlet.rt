@@ -10,7 +10,7 @@ ghost use Rattle.sq_oper.specs.Outflow.{given, ItemsSound};
 
 use crate::{Decision, Outs};
 use sq_item::Item;
-use sq_value::Fields;
+use sq_value::{Fields, Value};
 use std::alloc::{AllocError, Global};
 
 /// Takes what an operator gives, one item after another, so that no list of it has to stand anywhere.
@@ -49,6 +49,11 @@ pub trait Outlet {
     fn let_go(&mut self, fields: Fields)
         ensures { self.new ≡ self.old };
 
+    /// A vector without values, which may have memory.
+    fn reuse(&mut self) -> Vec<Value>
+        ensures empty { result.items ≡ [] }
+        ensures same { self.new ≡ self.old };
+
     /// A batch is dropped.
     fn decide(&mut self, decision: Decision) -> Result<(), AllocError>
         requires is_ready { ready self.old }
@@ -81,6 +86,10 @@ impl Outlet for Outs {
     }
 
     fn let_go(&mut self, _fields: Fields) {}
+
+    fn reuse(&mut self) -> Vec<Value> {
+        Vec::new(self.alloc())
+    }
 
     #[tactic(auto, using(crate::proofs::GivenLemmas::given_lemmas))]
     fn decide(&mut self, decision: Decision) -> Result<(), AllocError> {

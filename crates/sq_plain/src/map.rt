@@ -19,7 +19,7 @@ ghost use Rattle.sq_expr.specs.Checking.{trees};
 use crate::give::{give_mark, give_tuple};
 use sq_expr::Typed;
 use sq_item::{Body, Item, Sign};
-use sq_lists::map_tuple;
+use sq_lists::map_into;
 use sq_oper::{Decision, Operator, Outlet, Position, Tally, tick_if};
 use sq_outside::Steps;
 use sq_road::Levels;
@@ -64,7 +64,8 @@ impl MapBox {
         requires is_ready { T.ready out.old }
         ensures { Gave T.Outlet (λ q. at_zero q (things (map_list_of (trees self.now.exprs.items) (tuple ∷ [])))) out.old out.new result }
     {
-        let made = map_tuple(*self.exprs.allocator(), &self.exprs, &tuple)?;
+        let made = map_into(out.reuse(), &self.exprs, &tuple)?;
+        out.let_go(tuple.fields);
         give_tuple(0, made, out)
     }
 

@@ -1,8 +1,9 @@
 // Vectors of values that are done with, kept to be used again.
-ghost use Rattle.std.specs.Prelude.{◌≡◌, []};
+ghost use Rattle.std.specs.Prelude.{◌≡◌, [], IfOk};
+ghost use Rattle.sq_item.specs.SoundItems.{IsSoundItem};
 
-use sq_item::Item;
-use sq_value::{Fields, Value};
+use sq_item::{Body, Item, Sign};
+use sq_value::{Fields, Value, copy_value};
 use std::alloc::{AllocError, Global};
 use std::marker::Model;
 
@@ -59,4 +60,36 @@ impl Spares {
             None => Vec::new(alloc),
         }
     }
+
+    /// A copy of an item, whose values are put into a vector that is kept, where there is one.
+    pub fn copy_item(&mut self, item: &Item) -> Result<Item, AllocError>
+        requires { IsSoundItem item.now }
+        ensures copy { IfOk result (λ copy. copy ≡ item.now) }
+        ensures sound { IfOk result IsSoundItem }
+    {
+        let alloc = *self.vectors.allocator();
+        let body = if item.body.is_some() {
+            let copies = copy_into(self.reuse(alloc), item.body.as_slice())?;
+            Body::some(Fields::new(copies))
+        } else {
+            Body::none(alloc)
+        };
+        Ok(Item {
+            time: item.time,
+            mark: Sign::new(item.mark.get()),
+            body,
+        })
+    }
+}
+
+// Copies of values, put into a vector without any.
+fn copy_into(mut copies: Vec<Value>, values: &[Value]) -> Result<Vec<Value>, AllocError>
+    requires empty { copies.items ≡ [] }
+    ensures { IfOk result (λ made. made.items ≡ values.now) }
+{
+    copies.reserve_exact(values.len())?;
+    for value in values {
+        copies.push(copy_value(value)?)?;
+    }
+    Ok(copies)
 }

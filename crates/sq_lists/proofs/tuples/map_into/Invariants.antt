@@ -1,6 +1,6 @@
 use Rattle.std.proofs.Common.{◌≡◌, ◌++◌, map, drop}
 use Rattle.sq_expr.specs.Expressions.{value_of}
-use Rattle.sq_lists.proofs.tuples.map_tuple.Given as goal
+use Rattle.sq_lists.proofs.tuples.map_into.Given as goal
 
 abbrev pub invariant-loop-e : goal.invariant-loop-e
 invariant-loop-e l =
