@@ -79,15 +79,7 @@ impl Engine {
         ensures { IfOk result (IsNewEngine (record { network = network; sources = map (λ v. v.items) sources.items; entries = capacities; seed = seed }) frames) }
     {
         let ahead = none_ahead(alloc, &sources)?;
-        let engine = network_engine(
-            alloc,
-            &network,
-            sources,
-            ahead,
-            &capacities,
-            seed,
-            frames,
-        )?;
+        let engine = network_engine(alloc, &network, sources, ahead, &capacities, seed, frames)?;
         Ok(Engine { network, engine })
     }
 

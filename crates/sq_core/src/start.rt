@@ -29,7 +29,10 @@ pub(crate) fn queued(alloc: Global, sources: Vec<Vec<Tuple>>) -> Result<Vec<Stre
 }
 
 /// No more comes of any source than is known.
-pub(crate) fn none_ahead(alloc: Global, sources: &Vec<Stream>) -> Result<Vec<Option<u64>>, AllocError>
+pub(crate) fn none_ahead(
+    alloc: Global,
+    sources: &Vec<Stream>,
+) -> Result<Vec<Option<u64>>, AllocError>
     ensures { IfOk result (λ ahead. ahead.items ≡ replicate (length sources.now.items) None) }
 {
     vec![in alloc; None; sources.len()]
