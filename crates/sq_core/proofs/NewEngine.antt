@@ -49,7 +49,7 @@ use Rattle.sq_flow.specs.declared.fed_items.FedItems.{FedItems}
 use Rattle.sq_flow.specs.declared.seats.Seat.{Seat}
 use Rattle.sq_flow.specs.Seats.{rest_at, decides_at, lost_at, taken_at, fed_items_at, position_at, done_at, holds_at}
 use Rattle.sq_flow.specs.Starts.{IsNewSeat, IsNewFlow}
-use Rattle.sq_flow.specs.Flows.{may_come, tuples_to_come, RiseFrom, world_of, fed_on, left_on, fed_at_last, items_in, sum_below, taken_in_all}
+use Rattle.sq_flow.specs.Flows.{more_from, tuples_to_come, RiseFrom, world_of, fed_on, left_on, fed_at_last, items_in, sum_below, taken_in_all}
 use Rattle.sq_plan.specs.Arrivals.{arrivals}
 use Rattle.sq_flow.specs.Plans.{IsPlanned, last_arrival, plans_left}
 use Rattle.sq_flow.specs.Readiness.{stands, IsReady}
@@ -343,7 +343,7 @@ only-zero (x ∷ y ∷ ys) once there zero-only =
 module _ {O : Type 0} (m : Ghosts O) (n : Network) (sound : IsSound n) (e : Engine O) (is : IsEngine m e)
     (wired : AreWires n e.flow.wires) (many : length e.flow.seats.items ≡ ops_of n) (runs : e.flow.over ≡ false)
     (bare : (arc : ℕ) → face e.flow.queues arc ≡ record { count = 0; first = None; ended = false })
-    (known : (source : ℕ) → may_come (slice_get e.flow.ahead.items source) ≡ None) where
+    (known : (source : ℕ) → more_from (slice_get e.flow.ahead.items source) ≡ None) where
   replay-ready : IsReady e.flow (length e.flow.seats.items)
   replay-ready =
       record {

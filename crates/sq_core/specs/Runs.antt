@@ -30,9 +30,9 @@ use Rattle.sq_flow.specs.declared.errors.RunErr.{RunErr}
 use Rattle.sq_flow.specs.declared.errors.RunErr.TheVariants.{TooMuch}
 use Rattle.sq_flow.specs.Events.{lines_of, drops_of}
 use Rattle.sq_flow.specs.Seats.{taken_at}
-use Rattle.sq_flow.specs.Flows.{fed_on, items_in, may_come, taken_in_all}
+use Rattle.sq_flow.specs.Flows.{fed_on, items_in, more_from, taken_in_all}
 use Rattle.sq_flow.specs.Endings.{NothingComes}
-use Rattle.sq_flow.specs.Knowing.{IsHeld}
+use Rattle.sq_flow.specs.Knowing.{IsHeldUp}
 use Rattle.sq_flow.specs.Engines.{AllDone, IsEngine}
 use Rattle.sq_flow.specs.Plans.{plans_left, plans_of}
 use Rattle.sq_flow.specs.Tails.{Tails, Fits, with_tails}
@@ -70,7 +70,7 @@ pub record IsSoundEngine (e : Engine) : Type 0 where
 
 -- no more comes of any source than is known
 abbrev pub IsAllKnown : Engine → Type 0
-IsAllKnown e = (source : ℕ) → may_come (slice_get (flow_of e).ahead.items source) ≡ None
+IsAllKnown e = (source : ℕ) → more_from (slice_get (flow_of e).ahead.items source) ≡ None
 
 -- a flow is at work on a replay that was read. History is what was shown, begun is what the counter of steps said when nothing was
 -- fed, and steps is what it says now
@@ -119,7 +119,7 @@ pub record IsNewEngine (r : Replay) (most : ℕ) (e : Engine) : Type 0 where
 -- source. It has failed where a step did
 pub record IsState (e : Engine) (s : State) : Type 0 where
   pub runs : s ≡ Running → (0 < length (ready_of e)) × (has_failed e ≡ false)
-  pub waits : s ≡ Waiting → IsHeld e.engine
+  pub waits : s ≡ Waiting → IsHeldUp e.engine
   pub done : s ≡ Done → AllDone (flow_of e) × (has_failed e ≡ false)
   pub when_done : has_failed e ≡ false → AllDone (flow_of e) → s ≡ Done
   pub failed : s ≡ Failed → has_failed e ≡ true

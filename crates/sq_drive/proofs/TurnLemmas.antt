@@ -11,7 +11,7 @@ use Rattle.sq_pool.specs.Trust.{Tells, known}
 use Rattle.sq_pool.proofs.TrustLemmas.{IsLater-refl, IsLater-trans}
 use Rattle.sq_flow.specs.declared.errors.RunErr.{RunErr}
 use Rattle.sq_flow.specs.declared.steps.Progress.{Progress}
-use Rattle.sq_flow.specs.Flows.{Stepped, may_come}
+use Rattle.sq_flow.specs.Flows.{Stepped, more_from}
 use Rattle.sq_flow.specs.Stepping.{Stage}
 use Rattle.sq_flow.specs.Tails.{with_tails}
 use Rattle.sq_flow.proofs.CauseLemmas.{page-since}
@@ -129,7 +129,7 @@ module _ (a b : RunState) (cleared shown : List Event) (none : cleared ≡ []) w
         subst (λ xs. Stepped actors (known a.log) (known b.log) (with_tails tails (flow_of a.engine)) (with_tails tails (flow_of b.engine)) xs shown) none (on.step.train.moves.on tails fits);
     runs = λ r history begun run. on.run r history begun (run_here r history begun run);
     sound = on.sound;
-    known = λ source. ap (λ (v : Vec (Option ℕ) Global). may_come (slice_get v.items source)) on.step.train.moves.stepped.ahead ∙ can.known source;
+    known = λ source. ap (λ (v : Vec (Option ℕ) Global). more_from (slice_get v.items source)) on.step.train.moves.stepped.ahead ∙ can.known source;
   }
 
   -- it failed

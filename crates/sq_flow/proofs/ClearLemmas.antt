@@ -5,7 +5,7 @@ use Rattle.std.proofs.lemmas.Bool.{or_right}
 use Rattle.std.specs.Prelude.{is_some, slice_get}
 use Rattle.sq_value.specs.declared.Tuple.{Tuple}
 use Rattle.sq_replay.specs.RecordedTuples.{Recorded, first_recorded}
-use Rattle.sq_flow.specs.Flows.{may_come, tuples_to_come}
+use Rattle.sq_flow.specs.Flows.{more_from, tuples_to_come}
 use Rattle.sq_flow.specs.Sources.{all_below, some_below, holds_none, is_clear_of, IsWanted}
 use Rattle.sq_words.proofs.Bools.{and_true}
 
@@ -46,9 +46,9 @@ some-next p n none here = ap (some_below p) (add-one n) ∙ ap (λ b. b || p n) 
 
 -- a source that holds back another
 pub is-wanted : (sources : List Recorded) (ahead : List (Option ℕ)) (source : ℕ) → source < length sources → is_clear_of sources ahead source ≡ false → IsWanted sources ahead source
-is-wanted sources ahead source low held = by (tuples_to_come (slice_get sources source)) refl (may_come (slice_get ahead source)) refl held
+is-wanted sources ahead source low held = by (tuples_to_come (slice_get sources source)) refl (more_from (slice_get ahead source)) refl held
   where
-    by : (xs : List Tuple) → tuples_to_come (slice_get sources source) ≡ xs → (o : Option ℕ) → may_come (slice_get ahead source) ≡ o → holds_none sources source (first_recorded xs) o ≡ false
+    by : (xs : List Tuple) → tuples_to_come (slice_get sources source) ≡ xs → (o : Option ℕ) → more_from (slice_get ahead source) ≡ o → holds_none sources source (first_recorded xs) o ≡ false
         → IsWanted sources ahead source
     by (x ∷ xs) known o may h = cc h
     by [] known None may h = cc h

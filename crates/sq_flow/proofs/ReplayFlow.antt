@@ -37,7 +37,7 @@ use Rattle.sq_flow.specs.declared.flow.Flow.{Flow}
 use Rattle.sq_flow.specs.Wiring.{net_of, arcs_from, times_in, from_of, IsOwn}
 use Rattle.sq_flow.specs.Seats.{done_at, holds_at, IsSeat}
 use Rattle.sq_flow.specs.Events.{lines_of, drops_of}
-use Rattle.sq_flow.specs.Flows.{world_of, IsFlow, HoldsItems, Goes, Stepped, ShowsPrefix, RiseFrom, to_release, tuples_to_come, may_come, fed_on, lines_left, decisions_left, count_all}
+use Rattle.sq_flow.specs.Flows.{world_of, IsFlow, HoldsItems, Goes, Stepped, ShowsPrefix, RiseFrom, to_release, tuples_to_come, more_from, fed_on, lines_left, decisions_left, count_all}
 use Rattle.sq_flow.proofs.SendLemmas.{at_or_other, apart-arcs}
 use Rattle.std.proofs.Math.Bool.{or-true, or-false}
 use Rattle.sq_flow.proofs.SeatFlow.{turns-same, goes-kept}
@@ -277,7 +277,7 @@ module _ {O : Type 0} (m : Ghosts O) (e : Flow O) (flow : IsFlow m e) where
 
   -- the whole of the end of the replay
   pub ended-stepped : (pages : Option Pages) (q' : Queues) (events : List Event)
-      → Together e.queues pages → ((source : ℕ) → to_release e source ≡ []) → ((source : ℕ) → may_come (slice_get e.ahead.items source) ≡ None) → EndsOnly e.wires e.wires.replay e.queues q'
+      → Together e.queues pages → ((source : ℕ) → to_release e source ≡ []) → ((source : ℕ) → more_from (slice_get e.ahead.items source) ≡ None) → EndsOnly e.wires e.wires.replay e.queues q'
       → Stepped m pages pages e (record e { over = true; queues = q' }) events events
   ended-stepped pages q' events together none closed ends =
       record {

@@ -8,40 +8,40 @@ use Rattle.sq_value.specs.declared.Tuple.{Tuple}
 use Rattle.sq_replay.specs.RecordedTuples.{Recorded, first_recorded}
 use Rattle.sq_left.specs.Heads.{key_before}
 use Rattle.sq_words.proofs.Bools.{and_true}
-use Rattle.sq_flow.specs.Flows.{RiseFrom, tuples_to_come, may_come}
-use Rattle.sq_flow.specs.Sources.{BeginsNotBefore, BeginsAfter, BeginsLeast, IsNextSource, all_below, some_below, begins_before, holds_none, is_clear_of, is_clear, is_bare, is_wanted}
-use Rattle.sq_flow.specs.Tails.{Tails, IsTail, AreTails, joined, joined-length, closed}
+use Rattle.sq_flow.specs.Flows.{RiseFrom, tuples_to_come, more_from}
+use Rattle.sq_flow.specs.Sources.{BeginsNotBefore, BeginsAfter, BeginsLeast, IsNextSource, all_below, some_below, first_before, holds_none, is_clear_of, is_clear, none_known, is_wanted}
+use Rattle.sq_flow.specs.Tails.{Tails, IsSourceTail, AreTails, sources_with, joined-length, closed}
 use Rattle.sq_flow.proofs.ClearLemmas.{below-at, some-at}
 
 -- ---- a source with its tail
 
 pub joined-at : (tails : Tails) (sources : List Recorded) (k : ℕ) (v : Recorded) → slice_get sources k ≡ Some v
-    → slice_get (joined tails sources) k ≡ Some (record { items = v.items ++ tails k })
+    → slice_get (sources_with tails sources) k ≡ Some (record { items = v.items ++ tails k })
 joined-at tails [] k v is = cc is
 joined-at tails (s ∷ sources) zero v is = ap {B = Option Recorded} (λ (d : Recorded). Some (record { items = d.items ++ tails 0 })) (same_Some s v is)
 joined-at tails (s ∷ sources) (suc k) v is = joined-at (λ n. tails (suc n)) sources k v is
 
-joined-past : (tails : Tails) (sources : List Recorded) (k : ℕ) → slice_get sources k ≡ None → slice_get (joined tails sources) k ≡ None
+joined-past : (tails : Tails) (sources : List Recorded) (k : ℕ) → slice_get sources k ≡ None → slice_get (sources_with tails sources) k ≡ None
 joined-past tails [] k is = refl
 joined-past tails (s ∷ sources) zero is = cc is
 joined-past tails (s ∷ sources) (suc k) is = joined-past (λ n. tails (suc n)) sources k is
 
 -- what is to be released with the tail begins with what is known
 joined-front : (tails : Tails) (sources : List Recorded) (k : ℕ) (x : Tuple) (xs : List Tuple) → tuples_to_come (slice_get sources k) ≡ x ∷ xs
-    → tuples_to_come (slice_get (joined tails sources) k) ≡ x ∷ xs ++ tails k
+    → tuples_to_come (slice_get (sources_with tails sources) k) ≡ x ∷ xs ++ tails k
 joined-front tails [] k x xs is = cc is
 joined-front tails (s ∷ sources) zero x xs is = ap (λ l. l ++ tails 0) is
 joined-front tails (s ∷ sources) (suc k) x xs is = joined-front (λ n. tails (suc n)) sources k x xs is
 
 -- where nothing is known it is the tail, where there is such a source
 joined-bare : (tails : Tails) (sources : List Recorded) (k : ℕ) (P : List Tuple → Type 0) → tuples_to_come (slice_get sources k) ≡ [] → P (tails k) → P []
-    → P (tuples_to_come (slice_get (joined tails sources) k))
+    → P (tuples_to_come (slice_get (sources_with tails sources) k))
 joined-bare tails [] k P is tail none = none
 joined-bare tails (s ∷ sources) zero P is tail none = subst (λ l. P (l ++ tails 0)) (sym is) tail
 joined-bare tails (s ∷ sources) (suc k) P is tail none = joined-bare (λ n. tails (suc n)) sources k P is tail none
 
 pub joined-set : (tails : Tails) (sources : List Recorded) (k : ℕ) (v : Recorded)
-    → joined tails (set sources k v) ≡ set (joined tails sources) k (record { items = v.items ++ tails k })
+    → sources_with tails (set sources k v) ≡ set (sources_with tails sources) k (record { items = v.items ++ tails k })
 joined-set tails [] k v = refl
 joined-set tails (s ∷ sources) zero v = refl
 joined-set tails (s ∷ sources) (suc k) v = ap (λ l. record { items = s.items ++ tails 0 } ∷ l) (joined-set (λ n. tails (suc n)) sources k v)
@@ -62,7 +62,7 @@ before-parts time source from other h = by (ltb time from) refl
         let low = both.1 in
         inr (exact_unsigned_eq time from both.0, grind (arith, nat_tests, low))
 
-begins-at : (o : Option ℕ) (source from other : ℕ) → begins_before o source from other ≡ true → (time : ℕ) × ((o ≡ Some time) × (key_before time source from other ≡ true))
+begins-at : (o : Option ℕ) (source from other : ℕ) → first_before o source from other ≡ true → (time : ℕ) × ((o ≡ Some time) × (key_before time source from other ≡ true))
 begins-at None source from other h = cc h
 begins-at (Some time) source from other h = (time, (refl, h))
 
@@ -84,14 +84,14 @@ first-after time first (x ∷ xs) is h = let same = same_Some x.time first is in
 
 -- a source of which nothing is known and that holds back none: no more comes of it, or some known tuple precedes what may come
 bare-clear : (sources : List Recorded) (ahead : List (Option ℕ)) (k : ℕ) (P : Option ℕ → Type 0) → is_clear sources ahead ≡ true → k < length sources → tuples_to_come (slice_get sources k) ≡ [] → P None
-    → ((from time source : ℕ) → first_recorded (tuples_to_come (slice_get sources source)) ≡ Some time → Precedes time source from k → P (Some from)) → P (may_come (slice_get ahead k))
+    → ((from time source : ℕ) → first_recorded (tuples_to_come (slice_get sources source)) ≡ Some time → Precedes time source from k → P (Some from)) → P (more_from (slice_get ahead k))
 bare-clear sources ahead k P clear low none nothing behind =
-    by (may_come (slice_get ahead k)) (subst (λ l. holds_none sources k (first_recorded l) (may_come (slice_get ahead k)) ≡ true) none (below-at (is_clear_of sources ahead) (length sources) k clear low))
+    by (more_from (slice_get ahead k)) (subst (λ l. holds_none sources k (first_recorded l) (more_from (slice_get ahead k)) ≡ true) none (below-at (is_clear_of sources ahead) (length sources) k clear low))
   where
     by : (o : Option ℕ) → holds_none sources k None o ≡ true → P o
     by None h = nothing
     by (Some from) h =
-        let some = some-at (λ other. begins_before (first_recorded (tuples_to_come (slice_get sources other))) other from k) (length sources) h in
+        let some = some-at (λ other. first_before (first_recorded (tuples_to_come (slice_get sources other))) other from k) (length sources) h in
         let begins = begins-at (first_recorded (tuples_to_come (slice_get sources some.0))) some.0 from k some.1.1 in
         behind from begins.0 some.0 begins.1.0 (before-parts begins.0 some.0 from k begins.1.1)
 
@@ -99,7 +99,7 @@ bare-clear sources ahead k P clear low none nothing behind =
 pub clear-unwanted : (sources : List Recorded) (ahead : List (Option ℕ)) → some_below (is_wanted sources ahead) (length sources) ≡ false → is_clear sources ahead ≡ true
 clear-unwanted sources ahead = by (length sources)
   where
-    one : (k : ℕ) (o from : Option ℕ) (b c : Bool) → (b ≡ false → c ≡ true) → (b || is_bare o from) ≡ false → (c && holds_none sources k o from) ≡ true
+    one : (k : ℕ) (o from : Option ℕ) (b c : Bool) → (b ≡ false → c ≡ true) → (b || none_known o from) ≡ false → (c && holds_none sources k o from) ≡ true
     one k (Some time) from false c before h = ap (λ x. x && true) (before refl)
     one k None None false c before h = ap (λ x. x && true) (before refl)
     one k None (Some from) false c before h = cc h
@@ -108,36 +108,36 @@ clear-unwanted sources ahead = by (length sources)
     by : (n : ℕ) → some_below (is_wanted sources ahead) n ≡ false → all_below (is_clear_of sources ahead) n ≡ true
     by zero h = refl
     by (suc n) h =
-        one n (first_recorded (tuples_to_come (slice_get sources n))) (may_come (slice_get ahead n)) (some_below (is_wanted sources ahead) n) (all_below (is_clear_of sources ahead) n) (by n) h
+        one n (first_recorded (tuples_to_come (slice_get sources n))) (more_from (slice_get ahead n)) (some_below (is_wanted sources ahead) n) (all_below (is_clear_of sources ahead) n) (by n) h
 
 module _ (tails : Tails) (sources : List Recorded) (ahead : List (Option ℕ)) (clear : is_clear sources ahead ≡ true) (may : AreTails ahead tails) where
   -- how a source begins by what is known it begins whatever comes, where what comes of one of which nothing is known begins so
   begins-on : (P : List Tuple → Type 0) (k : ℕ) → P [] → ((y : Tuple) (ys zs : List Tuple) → P (y ∷ ys) → P (y ∷ zs)) → (k < length sources → tuples_to_come (slice_get sources k) ≡ [] → P (tails k))
-      → P (tuples_to_come (slice_get sources k)) → P (tuples_to_come (slice_get (joined tails sources) k))
+      → P (tuples_to_come (slice_get sources k)) → P (tuples_to_come (slice_get (sources_with tails sources) k))
   begins-on P k none longer bare known_so = at (tuples_to_come (slice_get sources k)) refl (ltb k (length sources)) refl
     where
-      at : (ys : List Tuple) → tuples_to_come (slice_get sources k) ≡ ys → (b : Bool) → ltb k (length sources) ≡ b → P (tuples_to_come (slice_get (joined tails sources) k))
+      at : (ys : List Tuple) → tuples_to_come (slice_get sources k) ≡ ys → (b : Bool) → ltb k (length sources) ≡ b → P (tuples_to_come (slice_get (sources_with tails sources) k))
       at (y ∷ ys) e b t = subst P (sym (joined-front tails sources k y ys e)) (longer y ys (ys ++ tails k) (subst P e known_so))
       at [] e true t = joined-bare tails sources k P e (bare (grind (arith, nat_tests, t)) e) none
       at [] e false t = subst (λ o. P (tuples_to_come o)) (sym (joined-past tails sources k (slice_get_past sources k (grind (arith, nat_tests, t))))) none
 
   -- the source that releases next by what is known releases next whatever comes
-  pub next-whatever : (source : ℕ) → IsNextSource sources source → IsNextSource (joined tails sources) source
+  pub next-whatever : (source : ℕ) → IsNextSource sources source → IsNextSource (sources_with tails sources) source
   next-whatever source next = by (tuples_to_come (slice_get sources source)) refl next.least
     where
-      by : (xs : List Tuple) → tuples_to_come (slice_get sources source) ≡ xs → BeginsLeast sources source xs → IsNextSource (joined tails sources) source
+      by : (xs : List Tuple) → tuples_to_come (slice_get sources source) ≡ xs → BeginsLeast sources source xs → IsNextSource (sources_with tails sources) source
       by [] is none = absurd none
       by (x ∷ xs) is h =
           record {
             there = (let there = next.there in let same = joined-length tails sources in omega (arith, there, same));
             least =
-                subst (BeginsLeast (joined tails sources) source) (sym (joined-front tails sources source x xs is))
+                subst (BeginsLeast (sources_with tails sources) source) (sym (joined-front tails sources source x xs is))
                 (λ other. begins-on (BeginsNotBefore x.time) other tt (λ y ys zs k. k) (not-before other) (h.0 other), λ other lower. begins-on (BeginsAfter x.time) other tt (λ y ys zs k. k) (after other lower) (h.1 other lower));
           }
         where
           not-before : (other : ℕ) → other < length sources → tuples_to_come (slice_get sources other) ≡ [] → BeginsNotBefore x.time (tails other)
           not-before other low none =
-              bare-clear sources ahead other (λ o. IsTail o (tails other) → BeginsNotBefore x.time (tails other)) clear low none (λ nothing. rw nothing tt)
+              bare-clear sources ahead other (λ o. IsSourceTail o (tails other) → BeginsNotBefore x.time (tails other)) clear low none (λ nothing. rw nothing tt)
               (λ from time k begins before rises.
               rises-from from x.time (tails other) rises (upto time from k before (first-not-before x.time time (tuples_to_come (slice_get sources k)) begins (h.0 k)))) (may other)
             where
@@ -147,7 +147,7 @@ module _ (tails : Tails) (sources : List Recorded) (ahead : List (Option ℕ)) (
 
           after : (other : ℕ) → other < source → other < length sources → tuples_to_come (slice_get sources other) ≡ [] → BeginsAfter x.time (tails other)
           after other lower low none =
-              bare-clear sources ahead other (λ o. IsTail o (tails other) → BeginsAfter x.time (tails other)) clear low none (λ nothing. rw nothing tt)
+              bare-clear sources ahead other (λ o. IsSourceTail o (tails other) → BeginsAfter x.time (tails other)) clear low none (λ nothing. rw nothing tt)
               (λ from time k begins before rises.
               rises-after from x.time (tails other) rises
               (upto time from k before (first-not-before x.time time (tuples_to_come (slice_get sources k)) begins (h.0 k)) (λ under. first-after x.time time (tuples_to_come (slice_get sources k)) begins (h.1 k under)))) (may other)
@@ -158,20 +158,20 @@ module _ (tails : Tails) (sources : List Recorded) (ahead : List (Option ℕ)) (
 
 -- where nothing is known and the replay may go on no more comes of any source
 pub all-closed : (sources : List Recorded) (ahead : List (Option ℕ)) → is_clear sources ahead ≡ true → length ahead ≡ length sources → ((source : ℕ) → tuples_to_come (slice_get sources source) ≡ [])
-    → (k : ℕ) → may_come (slice_get ahead k) ≡ None
+    → (k : ℕ) → more_from (slice_get ahead k) ≡ None
 all-closed sources ahead clear told none k = at (ltb k (length sources)) refl
   where
-    at : (b : Bool) → ltb k (length sources) ≡ b → may_come (slice_get ahead k) ≡ None
+    at : (b : Bool) → ltb k (length sources) ≡ b → more_from (slice_get ahead k) ≡ None
     at true t = bare-clear sources ahead k (λ o. o ≡ None) clear (grind (arith, nat_tests, t)) (none k) refl (λ from time source begins before. cc (sym (ap first_recorded (none source)) ∙ begins))
-    at false t = ap may_come (slice_get_past ahead k (let past : length sources ≤ k = grind (arith, nat_tests, t) in omega (arith, past, told)))
+    at false t = ap more_from (slice_get_past ahead k (let past : length sources ≤ k = grind (arith, nat_tests, t) in omega (arith, past, told)))
 
 -- what is to be released where no more comes
-pub closed-whatever : (tails : Tails) (sources : List Recorded) (ahead : List (Option ℕ)) → AreTails ahead tails → ((source : ℕ) → may_come (slice_get ahead source) ≡ None)
-    → ((source : ℕ) → tuples_to_come (slice_get sources source) ≡ []) → (source : ℕ) → tuples_to_come (slice_get (joined tails sources) source) ≡ []
+pub closed-whatever : (tails : Tails) (sources : List Recorded) (ahead : List (Option ℕ)) → AreTails ahead tails → ((source : ℕ) → more_from (slice_get ahead source) ≡ None)
+    → ((source : ℕ) → tuples_to_come (slice_get sources source) ≡ []) → (source : ℕ) → tuples_to_come (slice_get (sources_with tails sources) source) ≡ []
 closed-whatever tails sources ahead may closed_all none source =
-    joined-bare tails sources source (λ xs. xs ≡ []) (none source) (subst (λ o. IsTail o (tails source)) (closed_all source) (may source)) refl
+    joined-bare tails sources source (λ xs. xs ≡ []) (none source) (subst (λ o. IsSourceTail o (tails source)) (closed_all source) (may source)) refl
 
-pub none-more : (ahead : List (Option ℕ)) (source : ℕ) → may_come (slice_get (closed ahead) source) ≡ None
+pub none-more : (ahead : List (Option ℕ)) (source : ℕ) → more_from (slice_get (closed ahead) source) ≡ None
 none-more [] source = refl
 none-more (from ∷ ahead) zero = refl
 none-more (from ∷ ahead) (suc source) = none-more ahead source

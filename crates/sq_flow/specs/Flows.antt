@@ -34,9 +34,9 @@ tuples_to_come None = []
 tuples_to_come (Some tuples) = tuples.items
 
 -- from which tick on more may come of a source: none where no more comes
-abbrev pub may_come : Option (Option ℕ) → Option ℕ
-may_come None = None
-may_come (Some from) = from
+abbrev pub more_from : Option (Option ℕ) → Option ℕ
+more_from None = None
+more_from (Some from) = from
 
 -- what is known of a source and still to be released
 abbrev pub to_release : {O : Type 0} → Flow O → ℕ → List Tuple
@@ -73,7 +73,7 @@ pub record IsReplaying (sources : List Recorded) (ahead : List (Option ℕ)) (cl
   pub counted : length counts ≡ length sources
   pub few_tuples : (source : ℕ) → slice_index counts source + length (tuples_to_come (slice_get sources source)) ≤ 2 ^ 62
   pub ends : over ≡ true → (source : ℕ) → tuples_to_come (slice_get sources source) ≡ []
-  pub closed : over ≡ true → (source : ℕ) → may_come (slice_get ahead source) ≡ None
+  pub closed : over ≡ true → (source : ℕ) → more_from (slice_get ahead source) ≡ None
 
 -- what each step keeps, over every disk
 pub record IsFlow {O : Type 0} (m : Ghosts O) (flow : Flow O) : Type 0 where

@@ -22,7 +22,7 @@ use Rattle.sq_flow.specs.Flows.{tuples_to_come, RiseFrom, IsFlow}
 use Rattle.sq_plan.specs.Arrivals.{arrivals}
 use Rattle.sq_flow.specs.Plans.{IsPlanned, last_arrival, plans_left}
 use Rattle.sq_flow.specs.Seats.{FitsArcs, holds_at}
-use Rattle.sq_flow.specs.Tails.{Tails, joined, with_tails, MayFit}
+use Rattle.sq_flow.specs.Tails.{Tails, sources_with, with_tails, MayFit}
 use Rattle.sq_flow.specs.Wiring.{net_of, IsOwn, IsShaped}
 
 -- the operator is new and fits its arcs, all that it may decide is its own, and levels of epochs of so many ticks may be read
@@ -84,4 +84,4 @@ pub record BeginsFlow {O : Type 0} (m : Ghosts O) (wires : Wires) (seats : Vec (
   pub parts : IsNewFlow wires seats sources ahead planner levels most e
   pub plans : PlansAll sources.items planner levels.epoch e
   pub fits : MayFit m sources.items ahead e
-  pub plans_on : (tails : Tails) → PlansAll (joined tails sources.items) planner levels.epoch (with_tails tails e)
+  pub plans_on : (tails : Tails) → PlansAll (sources_with tails sources.items) planner levels.epoch (with_tails tails e)

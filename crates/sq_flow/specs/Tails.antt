@@ -9,32 +9,32 @@ use Rattle.sq_value.specs.declared.Tuple.{Tuple}
 use Rattle.sq_oper.specs.declared.operator.Operator.{Ghosts}
 use Rattle.sq_replay.specs.RecordedTuples.{Recorded}
 use Rattle.sq_flow.specs.declared.flow.Flow.{Flow}
-use Rattle.sq_flow.specs.Flows.{IsFlow, RiseFrom, may_come, tuples_to_come}
+use Rattle.sq_flow.specs.Flows.{IsFlow, RiseFrom, more_from, tuples_to_come}
 
 -- of each source what comes behind what is known of it
 abbrev pub Tails : Type 0
 Tails = ℕ → List Tuple
 
 -- nothing where no more comes, and else tuples from a tick on whose times don't fall
-abbrev pub IsTail : Option ℕ → List Tuple → Type 0
-IsTail None tail = tail ≡ []
-IsTail (Some from) tail = RiseFrom from tail
+abbrev pub IsSourceTail : Option ℕ → List Tuple → Type 0
+IsSourceTail None tail = tail ≡ []
+IsSourceTail (Some from) tail = RiseFrom from tail
 
 -- these may come, where this is told of each source
 abbrev pub AreTails : List (Option ℕ) → Tails → Type 0
-AreTails ahead tails = (source : ℕ) → IsTail (may_come (slice_get ahead source)) (tails source)
+AreTails ahead tails = (source : ℕ) → IsSourceTail (more_from (slice_get ahead source)) (tails source)
 
 -- each source with its tail
-abbrev pub joined : Tails → List Recorded → List Recorded
-joined tails [] = []
-joined tails (s ∷ sources) = record { items = s.items ++ tails 0 } ∷ joined (λ source. tails (suc source)) sources
+abbrev pub sources_with : Tails → List Recorded → List Recorded
+sources_with tails [] = []
+sources_with tails (s ∷ sources) = record { items = s.items ++ tails 0 } ∷ sources_with (λ source. tails (suc source)) sources
 
-pub joined-length : (tails : Tails) (sources : List Recorded) → length sources ≡ length (joined tails sources)
+pub joined-length : (tails : Tails) (sources : List Recorded) → length sources ≡ length (sources_with tails sources)
 joined-length tails [] = refl
 joined-length tails (s ∷ sources) = ap suc (joined-length (λ source. tails (suc source)) sources)
 
 abbrev pub joined_in : Tails → Vec Recorded Global → Vec Recorded Global
-joined_in tails v = record { ptr = v.ptr; len = v.len; cap = v.cap; alloc = v.alloc; items = joined tails v.items; ok = (v.ok.0 ∙ joined-length tails v.items, v.ok.1); small = v.small }
+joined_in tails v = record { ptr = v.ptr; len = v.len; cap = v.cap; alloc = v.alloc; items = sources_with tails v.items; ok = (v.ok.0 ∙ joined-length tails v.items, v.ok.1); small = v.small }
 
 -- no more comes of any source
 abbrev pub closed : List (Option ℕ) → List (Option ℕ)
@@ -55,8 +55,8 @@ with_tails tails flow = record flow { sources = joined_in tails flow.sources; ah
 abbrev pub no_tails : Tails
 no_tails source = []
 
-abbrev pub added : ℕ → List Tuple → Tails → Tails
-added source more tails other = (if other == source then more else []) ++ tails other
+abbrev pub with_known : ℕ → List Tuple → Tails → Tails
+with_known source more tails other = (if other == source then more else []) ++ tails other
 
 -- these may come, and with them the flow is one that keeps its invariants
 pub record Fits {O : Type 0} (m : Ghosts O) (tails : Tails) (flow : Flow O) : Type 0 where
@@ -66,8 +66,8 @@ pub record Fits {O : Type 0} (m : Ghosts O) (tails : Tails) (flow : Flow O) : Ty
 -- all may come that rises behind what is known, no more of a source than can be counted
 pub record MayCome (sources : List Recorded) (ahead : List (Option ℕ)) (tails : Tails) : Type 0 where
   pub may : AreTails ahead tails
-  pub rises : (source : ℕ) → RiseFrom 0 (tuples_to_come (slice_get (joined tails sources) source))
-  pub few : (source : ℕ) → length (tuples_to_come (slice_get (joined tails sources) source)) ≤ 2 ^ 62
+  pub rises : (source : ℕ) → RiseFrom 0 (tuples_to_come (slice_get (sources_with tails sources) source))
+  pub few : (source : ℕ) → length (tuples_to_come (slice_get (sources_with tails sources) source)) ≤ 2 ^ 62
 
 abbrev pub MayFit : {O : Type 0} → Ghosts O → List Recorded → List (Option ℕ) → Flow O → Type 0
 MayFit m sources ahead flow = (tails : Tails) → MayCome sources ahead tails → Fits m tails flow

@@ -69,7 +69,7 @@ impl<O: Operator + Drop> Engine<O> {
     ghost use Rattle.sq_flow.specs.Stepping.{stage, StepErr};
     ghost use Rattle.sq_flow.specs.EngineSteps.{EngineOk};
     ghost use Rattle.sq_flow.specs.Engines.{IsEngine, MayLook, Looked, AllDone, readers_of};
-    ghost use Rattle.sq_flow.specs.Knowing.{IsHeld, MayKnow, Knows};
+    ghost use Rattle.sq_flow.specs.Knowing.{IsHeldUp, MayKnow, Knows};
     ghost use Rattle.sq_flow.specs.Endings.{NothingComes};
     ghost use Rattle.sq_flow.specs.Seats.{taken_at};
     ghost use Rattle.sq_flow.specs.Starts.{AreNewParts};
@@ -225,7 +225,7 @@ impl<O: Operator + Drop> Engine<O> {
         ensures done { result ≡ State.Done → AllDone self.now.flow × (self.now.failed ≡ false) }
         ensures when_done { self.now.failed ≡ false → AllDone self.now.flow → result ≡ State.Done }
         ensures runs { result ≡ State.Running → (0 < length self.now.ready.list) × (self.now.failed ≡ false) }
-        ensures waits { result ≡ State.Waiting → IsHeld self.now }
+        ensures waits { result ≡ State.Waiting → IsHeldUp self.now }
         ensures failed { result ≡ State.Failed → self.now.failed ≡ true }
         ensures when_failed { self.now.failed ≡ true → result ≡ State.Failed }
     {

@@ -144,7 +144,7 @@ fn end_arcs(wires: &Wires, queues: &mut Queues, seat: u32)
 }
 
 impl<O: Operator + Drop> Flow<O> {
-    ghost use Rattle.sq_flow.specs.Flows.{IsFlow, may_come, to_release};
+    ghost use Rattle.sq_flow.specs.Flows.{IsFlow, more_from, to_release};
     ghost use Rattle.sq_flow.specs.Sources.{is_clear};
     ghost use Rattle.sq_flow.specs.Stepping.{MayStep, HasNext, HasFeed, stage, StepWhole, StepErr, StepsAlone};
 
@@ -274,7 +274,7 @@ impl<O: Operator + Drop> Flow<O> {
     pub(crate) fn end_step(&mut self)
         requires flow { IsFlow O.Operator self.old }
         requires none { (source : ℕ) → to_release self.old source ≡ [] }
-        requires closed { (source : ℕ) → may_come (slice_get self.old.ahead.items source) ≡ None }
+        requires closed { (source : ℕ) → more_from (slice_get self.old.ahead.items source) ≡ None }
         requires running { self.old.over ≡ false }
         ensures { StepsAlone O.Operator (length self.old.seats.items) Did.Finished self.old self.new }
     {

@@ -2,7 +2,7 @@ use Rattle.std.proofs.Common.{◌≡◌, ℕ, None, slice_get, ◌+◌, ◌∙�
 use Rattle.std.proofs.lemmas.List.{length-map}
 use Rattle.sq_points.proofs.Bounds.{at_most, counts}
 use Rattle.sq_model.specs.Shedding.{Replay}
-use Rattle.sq_flow.specs.Flows.{may_come}
+use Rattle.sq_flow.specs.Flows.{more_from}
 use Rattle.sq_flow.specs.Wiring.{IsShaped}
 use Rattle.sq_core.specs.Meanings.{actors}
 use Rattle.sq_core.specs.NewSeats.{AreNewSeats}
@@ -51,7 +51,7 @@ returns c =
     let wired : AreWires n flow.wires = subst (AreWires n) (sym begins.parts.wires_are) c.in_ok-wires.ensures in
     let seated : AreNewSeats n c.args.seed flow.seats.items = subst (λ v. AreNewSeats n c.args.seed v.items) (sym begins.parts.seats_are) c.in_ok-seats.ensures in
     let whole : IsSoundEngine (record { network = n; engine = e }) = record { network = sound; laid = record { boxes = wired.sheds; drops = wired.shown; operators = seated.count }; engine = made.engine } in
-    let known : (source : ℕ) → may_come (slice_get flow.ahead.items source) ≡ None = none-come flow.ahead.items (length c.args.sources.items) (begins.parts.ahead_are ∙ c.requires.known) in
+    let known : (source : ℕ) → more_from (slice_get flow.ahead.items source) ≡ None = none-come flow.ahead.items (length c.args.sources.items) (begins.parts.ahead_are ∙ c.requires.known) in
     record {
       sound = whole;
       run = λ pages steps. record {

@@ -3,8 +3,8 @@ use Rattle.std.specs.Prelude.{is_some, slice_get}
 use Rattle.std.proofs.lemmas.Option.{slice_get_read}
 use Rattle.std.proofs.Math.Bool.{or-false}
 use Rattle.sq_replay.specs.RecordedTuples.{first_recorded}
-use Rattle.sq_flow.specs.Flows.{tuples_to_come, may_come}
-use Rattle.sq_flow.specs.Sources.{is_bare, is_wanted}
+use Rattle.sq_flow.specs.Flows.{tuples_to_come, more_from}
+use Rattle.sq_flow.specs.Sources.{none_known, is_wanted}
 use Rattle.sq_flow.proofs.ClearLemmas.{some-more}
 use Rattle.sq_flow.proofs.SourceLemmas.{none-of, best-past, best-stays, best-first, best-new, best-none, best-some}
 use Rattle.sq_flow.proofs.flow.look_at_sources.Goals as goal
@@ -19,7 +19,7 @@ loop-source-preserved c =
     let low : i < length sources = omega (arith, c.loop-source-test.true, c.len-source-end.ensures, c.args.sources.now.ok.0) in
     let at = ap tuples_to_come (slice_get_read sources _ i c.index.result.now refl low c.index.ensures) in
     let begins = ap first_recorded at ∙ sym c.time.ensures in
-    let with_known = λ (o : Option ℕ) (is : first_recorded (tuples_to_come (slice_get sources i)) ≡ o). ap (λ k. c.loop-source.wanted || is_bare k (may_come (slice_get ahead i))) is in
+    let with_known = λ (o : Option ℕ) (is : first_recorded (tuples_to_come (slice_get sources i)) ≡ o). ap (λ k. c.loop-source.wanted || none_known k (more_from (slice_get ahead i))) is in
     record {
       best =
           elim c.match-time.branch [
@@ -47,7 +47,7 @@ loop-source-preserved c =
                 let within : i < length ahead = omega (arith, low, c.requires.told) in
                 let from = slice_get_read ahead _ i w.index-else-wanted.result.now refl within w.index-else-wanted.ensures in
                 w.wanted-is ∙ w.is_some-wanted.ensures
-                ∙ sym (with_known _ (begins ∙ w.in-None.is) ∙ ap (λ b. b || is_bare None (may_come (slice_get ahead i))) w.if-wanted.false ∙ ap (λ o. is_some (may_come o)) from)
+                ∙ sym (with_known _ (begins ∙ w.in-None.is) ∙ ap (λ b. b || none_known None (more_from (slice_get ahead i))) w.if-wanted.false ∙ ap (λ o. is_some (more_from o)) from)
           ]);
     }
 
